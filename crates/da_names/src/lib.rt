@@ -1,0 +1,6 @@
+//! User names, filters of user names, and templates with variables.
+#![tactic(auto)]
+
+mod variables;
+
+pub use variables::{VarText, Vars};

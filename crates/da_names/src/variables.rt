@@ -1,0 +1,48 @@
+// The variables of templates.
+
+ghost use Rattle.std.specs.Prelude.{◌≡◌};
+
+use std::marker::Model;
+
+/// The value of a variable: a list of bytes.
+#[derive(Drop)]
+pub struct VarText {
+    bytes: Vec<u8>,
+}
+
+impl Model for VarText {
+    ghost use Rattle.std.specs.Prelude.{List, ℕ};
+
+    ghost Value = { List ℕ };
+
+    ghost view = { λ t. t.bytes.items };
+}
+
+impl VarText {
+    /// The value of these bytes. It takes no memory.
+    pub fn new(bytes: Vec<u8>) -> VarText
+        ensures { result ≡ bytes.items }
+    {
+        VarText { bytes }
+    }
+
+    /// The bytes of the value.
+    pub fn bytes(&self) -> &[u8]
+        ensures { result.now ≡ self.now }
+    {
+        &self.bytes
+    }
+}
+
+/// What the variables of a template stand for.
+#[derive(Drop)]
+pub struct Vars {
+    /// The user name: `%u`, and its parts `%n` and `%d`.
+    pub user: VarText,
+    /// The service: `%s`.
+    pub service: VarText,
+    /// The address of the client, or empty where it is not known: `%r`.
+    pub rip: VarText,
+    /// The address of the server, or empty where it is not known: `%l`.
+    pub lip: VarText,
+}
