@@ -1,0 +1,4 @@
+pub mod Causes
+pub mod Past
+pub mod Got
+pub mod Files
