@@ -1,0 +1,5 @@
+pub mod Scheme
+pub mod Hmac
+pub mod Keys
+pub mod Stored
+pub mod Made

@@ -1,0 +1,15 @@
+//! Password schemes: a stored password is read from its text, a plaintext is held against it, and a new one is made.
+//! `Stored::matches` is the definition `matches` of `specs/Stored.antt`, over MD5, SHA-1, SHA-2, HMAC (RFC 2104) and
+//! PBKDF2 (RFC 8018) as functions on lists of bytes.
+#![tactic(auto)]
+
+pub use keys::ScramKeys;
+pub use octets::Octets;
+pub use scheme::Scheme;
+pub use stored::{SchemeFault, Stored};
+
+mod keys;
+mod octets;
+mod scheme;
+mod secret;
+mod stored;
