@@ -1,0 +1,11 @@
+//! Lines of fields: the cut of a stream into lines and of a line into fields, the escapes of a field, and the parts of a
+//! field: numbers in decimal, what stands before and after a byte, and what stands after a given front.
+#![tactic(auto)]
+
+mod numbers;
+mod parts;
+mod pieces;
+
+pub use numbers::{decimal_number, decimal_u32, number_is_decimal, printed_number_is_read};
+pub use parts::{split_at_byte, strip_front};
+pub use pieces::fields;
