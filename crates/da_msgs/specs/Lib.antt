@@ -1,0 +1,4 @@
+pub mod Lines
+pub mod ClientMessages
+pub mod MasterMessages
+pub mod Replies

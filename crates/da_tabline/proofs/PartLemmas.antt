@@ -1,13 +1,11 @@
 -- Lemmas on the parts of a text.
-use Rattle.std.proofs.Common.{Bor, ◌≡◌, ℕ, ◌+◌, ◌-◌, ◌<◌, ◌≤◌, Bool, true, false, List, [], ◌∷◌, ◌++◌, length, get_or, take, drop, Some, None, Option, eqb, cond, ◌≢◌, refl, sym, ap, ◌∙◌, subst, inl, inr, arith, rules}
+use Rattle.std.proofs.Common.{Bor, ◌≡◌, ℕ, ◌+◌, ◌<◌, false, [], ◌∷◌, ◌++◌, length, get_or, take, drop, Some, None, Option, eqb, ◌≢◌, refl, sym, ap, ◌∙◌, inl, inr}
 use Rattle.std.specs.Prelude.{MatchOption, option_copied}
-use Rattle.std.specs.List.{All}
 use Rattle.std.proofs.lemmas.Bool.{cases_Bool, eqb-true, eq-eqb}
-use Rattle.std.proofs.lemmas.List.{take-append-drop, drop_more, get_or_default}
+use Rattle.std.proofs.lemmas.List.{take-append-drop, drop_more}
 use Rattle.std.proofs.lemmas.Option.{same_Some}
-use Rattle.std.proofs.lemmas.List.Elements.{All-nil, All-cons, All-head, All-tail}
-use Rattle.std.proofs.lemmas.List.Splits.{slice_split_none, slice_split_at}
-use Rattle.da_base.specs.Words.{Bytes, before_byte, after_byte, after_front, pieces}
+use Rattle.std.proofs.lemmas.List.Elements.{All-head, All-tail}
+use Rattle.da_base.specs.Words.{Bytes, before_byte, after_byte, after_front}
 use Rattle.da_tabline.specs.Parts.{Lacks, SplitsAt, IsCutAt}
 
 -- a text without the byte stands before it whole

@@ -1,8 +1,7 @@
-use Rattle.std.proofs.Common.{◌≡◌, ◌+◌, false, take, drop, eqb, arith}
+use Rattle.std.proofs.Common.{◌≡◌, ◌+◌, false, eqb, arith}
 use Rattle.std.proofs.lemmas.Bool.{ne_eqb}
 use Rattle.std.proofs.lemmas.List.{take_rest, take_all}
 use Rattle.std.proofs.lemmas.List.Elements.{All-more}
-use Rattle.da_tabline.specs.Parts.{Lacks}
 use Rattle.da_tabline.proofs.PartLemmas.{splits_at, cut_from_split, cut_from_Lacks}
 use Rattle.da_tabline.proofs.parts.split_at_byte.Goals as goal
 

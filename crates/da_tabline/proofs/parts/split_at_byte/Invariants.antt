@@ -1,4 +1,4 @@
-use Rattle.std.proofs.Common.{◌≡◌, ◌++◌, take, drop}
+use Rattle.std.proofs.Common.{take}
 use Rattle.da_tabline.specs.Parts.{Lacks}
 use Rattle.da_tabline.proofs.parts.split_at_byte.Given as goal
 

@@ -1,5 +1,4 @@
 use Rattle.std.proofs.Common.{◌∙◌, eqb, rules, tests}
-use Rattle.std.proofs.lemmas.Iterator.{YieldsList}
 use Rattle.std.proofs.lemmas.Iterator.Consumers.{YieldsList-end}
 use Rattle.std.proofs.lemmas.Iterator.Splits.{YieldsList-from_slice_split}
 use Rattle.da_tabline.proofs.pieces.fields.Goals as goal
