@@ -1,6 +1,6 @@
 -- Fields: pairs of a key and a value, with distinct keys.
 use Rattle.std.specs.Prelude.{◌≡◌, Bool, false, ◌&&◌, ◌||◌, not, List, [], ◌∷◌, ◌++◌, length, drop, map, filter, Option, Some, None, if◌then◌else◌, nat_lt, bytes_eq, codes, is_some}
-use Rattle.da_base.specs.Words.{Bytes, begins_with}
+use Rattle.da_base.specs.Words.{Bytes, begins_with, before_byte, after_byte, option_or_else, is_empty}
 
 abbrev pub Pairs : Type 0
 Pairs = List (Bytes × Bytes)
@@ -43,6 +43,20 @@ visible pairs = filter (λ p. not (is_hidden p.0)) pairs
 -- the fields that begin with the prefix of the user databases, without it
 abbrev pub userdb_part : Pairs → Pairs
 userdb_part pairs = map (λ p. (drop 7 p.0, p.1)) (filter (λ p. is_userdb_key p.0) pairs)
+
+-- ---- fields as texts
+
+-- a key and its value with an equals sign between them; one with an empty value is its key alone
+abbrev pub field_text : Bytes × Bytes → Bytes
+field_text p = if is_empty p.1 then p.0 else (p.0 ++ (61 ∷ p.1))
+
+-- the key of a text: what stands before the first equals sign, or the whole text
+abbrev pub text_key : Bytes → Bytes
+text_key text = before_byte 61 text
+
+-- its value: what stands after that sign, or nothing
+abbrev pub text_value : Bytes → Bytes
+text_value text = option_or_else (after_byte 61 text) [] (λ value. value)
 
 -- ---- distinct keys
 

@@ -1,1 +1,2 @@
 pub mod FieldList
+pub mod Answers

@@ -4,10 +4,12 @@
 
 mod answer;
 mod fields;
+mod outcome;
 mod said;
 mod text;
 
 pub use answer::{Answer, Query, QueryKind, Why};
 pub use fields::Fields;
+pub use outcome::{Outcome, Rule};
 pub use said::Said;
 pub use text::Text;

@@ -1,8 +1,9 @@
 -- Which message a line of a client spells.
 use Rattle.std.specs.Prelude.{ℕ, ◌&&◌, not, List, [], ◌∷◌, Option, Some, None, option_map, option_and_then, if◌then◌else◌, bytes_eq, codes, is_some}
-use Rattle.da_base.specs.Words.{Bytes, before_byte, after_byte, after_front, is_empty, number, option_or_else}
-use Rattle.da_fields.specs.FieldList.{Pairs, field, with_field}
-use Rattle.da_msgs.specs.Lines.{line_fields, fits_a_line}
+use Rattle.da_base.specs.Words.{Bytes, after_front, is_empty, number, option_or_else}
+use Rattle.da_tabline.specs.Escapes.{line_fields}
+use Rattle.da_fields.specs.FieldList.{Pairs, field, with_field, text_key, text_value}
+use Rattle.da_msgs.specs.Lines.{fits_a_line}
 use Rattle.da_msgs.specs.declared.client.ClientMsg.{ClientMsg}
 use Rattle.da_msgs.specs.declared.client.ClientMsg.TheVariants.{Version, Pid, Auth, Cont, Cancel, Other}
 
@@ -15,19 +16,12 @@ abbrev pub one_number : List Bytes → Option ℕ
 one_number (n ∷ []) = number n
 one_number _ = None
 
--- a parameter: its name, and its value, which is empty where there is none
-abbrev pub parameter_name : Bytes → Bytes
-parameter_name p = before_byte 61 p
-
-abbrev pub parameter_value : Bytes → Bytes
-parameter_value p = option_or_else (after_byte 61 p) [] (λ value. value)
-
 -- what the parameters give after those found so far: them, of equal names the last, and the text of resp=, which ends them
 abbrev pub parameters_of : List Bytes → Pairs → Option (Pairs × Option Bytes)
 parameters_of [] found = Some (found, None)
 parameters_of (p ∷ ps) found =
-    let rest = parameters_of ps (with_field (parameter_name p) (parameter_value p) found) in
-    option_or_else (after_front (codes "resp=") p) (if is_empty (parameter_name p) then None else rest) (λ text. Some (found, Some text))
+    let rest = parameters_of ps (with_field (text_key p) (text_value p) found) in
+    option_or_else (after_front (codes "resp=") p) (if is_empty (text_key p) then None else rest) (λ text. Some (found, Some text))
 
 abbrev pub auth_with : ℕ → Bytes → Option (Pairs × Option Bytes) → Option ClientMsg
 auth_with id mechanism None = None

@@ -1,7 +1,8 @@
 -- Which message a line of a master spells.
 use Rattle.std.specs.Prelude.{ℕ, List, [], ◌∷◌, Option, Some, None, option_map, if◌then◌else◌, bytes_eq, codes}
 use Rattle.da_base.specs.Words.{Bytes, number}
-use Rattle.da_msgs.specs.Lines.{line_fields, fits_a_line}
+use Rattle.da_tabline.specs.Escapes.{line_fields}
+use Rattle.da_msgs.specs.Lines.{fits_a_line}
 use Rattle.da_msgs.specs.ClientMessages.{version_of}
 use Rattle.da_msgs.specs.declared.master.MasterMsg.{MasterMsg}
 use Rattle.da_msgs.specs.declared.master.MasterMsg.TheVariants.{Version, Request, Other}

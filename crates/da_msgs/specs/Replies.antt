@@ -1,8 +1,9 @@
 -- The lines that the service sends.
 use Rattle.std.specs.Prelude.{ℕ, List, [], ◌∷◌, ◌++◌, map, Option, Some, None, bytes_eq, codes, decimal, if◌then◌else◌}
 use Rattle.da_base.specs.Words.{Bytes, upper}
-use Rattle.da_fields.specs.FieldList.{visible}
-use Rattle.da_msgs.specs.Lines.{spelled, field_text, optional_field, flag}
+use Rattle.da_fields.specs.FieldList.{visible, field_text}
+use Rattle.da_tabline.specs.Escapes.{spelled}
+use Rattle.da_msgs.specs.Lines.{optional_field, flag}
 use Rattle.da_msgs.specs.declared.kinds.ConnKind.{ConnKind}
 use Rattle.da_msgs.specs.declared.kinds.ConnKind.TheVariants.{Client, Master}
 use Rattle.da_msgs.specs.declared.kinds.Mech.{Mech}

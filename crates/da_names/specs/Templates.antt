@@ -1,6 +1,6 @@
 -- Templates: texts in which a percent sign begins a variable.
 use Rattle.std.specs.Prelude.{ℕ, Bool, true, false, ◌&&◌, ◌||◌, not, List, [], ◌∷◌, ◌++◌, map, if◌then◌else◌, ◌==◌}
-use Rattle.da_base.specs.Words.{Bytes, before_byte, after_byte, option_or_else}
+use Rattle.da_base.specs.Words.{Bytes, before_byte, after_byte, option_or_else, is_empty}
 use Rattle.da_names.specs.declared.variables.Vars.{Vars}
 
 -- the letters of the variables: u, n, d, s, r, l, and the percent sign itself
@@ -15,6 +15,10 @@ is_template false (c ∷ cs) = is_template (c == 37) cs
 -- each percent sign begins a variable
 abbrev pub template_ok : Bytes → Bool
 template_ok template = is_template false template
+
+-- a field whose value is a template, with a key that isn't empty
+abbrev pub is_template_field : Bytes × Bytes → Bool
+is_template_field p = not (is_empty p.0) && template_ok p.1
 
 -- what a variable stands for
 abbrev pub variable : Vars → ℕ → Bytes

@@ -1,6 +1,6 @@
--- Escapes: how the bytes 0x00, 0x01, TAB, CR and LF stand in a field.
-use Rattle.std.specs.Prelude.{ℕ, Bool, true, false, [], ◌∷◌, ◌++◌, if◌then◌else◌, ◌==◌}
-use Rattle.da_base.specs.Words.{Bytes}
+-- Escapes: how the bytes 0x00, 0x01, TAB, CR and LF stand in a field, and lines of fields.
+use Rattle.std.specs.Prelude.{ℕ, Bool, true, false, List, map, [], ◌∷◌, ◌++◌, if◌then◌else◌, ◌==◌}
+use Rattle.da_base.specs.Words.{Bytes, pieces}
 
 abbrev pub letter : ℕ → ℕ
 letter c = if c == 48 then 0 else if c == 49 then 1 else if c == 116 then 9 else if c == 114 then 13 else if c == 110 then 10 else c
@@ -26,3 +26,15 @@ escaped_byte c =
 abbrev pub escape : Bytes → Bytes
 escape [] = []
 escape (c ∷ cs) = escaped_byte c ++ escape cs
+
+-- ---- lines of fields
+
+-- the fields of a line: it is cut at TAB, and then each piece is read
+abbrev pub line_fields : Bytes → List Bytes
+line_fields line = map unescape (pieces 9 line)
+
+-- the line of these fields, with TABs between them
+abbrev pub spelled : List Bytes → Bytes
+spelled [] = []
+spelled (f ∷ []) = escape f
+spelled (f ∷ g ∷ fs) = escape f ++ (9 ∷ spelled (g ∷ fs))

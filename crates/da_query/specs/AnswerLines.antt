@@ -1,0 +1,121 @@
+-- Answer lines: what a worker, or a script of events, says to a query.
+use Rattle.std.specs.Prelude.{ℕ, Bool, ◌&&◌, List, [], ◌∷◌, map, Option, Some, None, option_map, option_and_then, if◌then◌else◌, ◌==◌, bytes_eq, codes, decimal, is_some}
+use Rattle.da_base.specs.Words.{Bytes, is_empty, number}
+use Rattle.da_tabline.specs.Escapes.{line_fields, spelled}
+use Rattle.da_fields.specs.FieldList.{Pairs, field, field_text, text_key, text_value}
+use Rattle.da_fields.specs.Answers.{fits}
+use Rattle.da_fields.specs.declared.answer.Answer.{Answer}
+use Rattle.da_fields.specs.declared.answer.Answer.TheVariants.{Found, Passed, Mismatch, Unknown, Internal}
+use Rattle.da_fields.specs.declared.answer.Why.{Why}
+use Rattle.da_fields.specs.declared.answer.Why.TheVariants.{Died, Malformed, Said, Late, Exit}
+use Rattle.da_fields.specs.declared.answer.Query.{Query}
+
+-- ---- fields
+
+abbrev pub with_text_field : Bytes → Pairs → Option Pairs
+with_text_field text pairs =
+    if is_empty (text_key text) then None
+    else if is_some (field (text_key text) pairs) then None
+    else Some ((text_key text, text_value text) ∷ pairs)
+
+-- the fields that these texts are, their keys distinct and not empty
+abbrev pub fields_of : List Bytes → Option Pairs
+fields_of [] = Some []
+fields_of (text ∷ texts) = option_and_then (with_text_field text) (fields_of texts)
+
+-- ---- reading
+
+-- an answer, and the number of the query that it is an answer to
+abbrev pub Numbered : Type 0
+Numbered = ℕ × Answer
+
+abbrev pub numbered : Option ℕ → Option Answer → Option Numbered
+numbered (Some n) (Some answer) = Some (n, answer)
+numbered _ _ = None
+
+abbrev pub found_of : List Bytes → Option Answer
+found_of (stored ∷ texts) = option_map (λ fields. Found stored fields) (fields_of texts)
+found_of [] = None
+
+abbrev pub passed_of : List Bytes → Option Answer
+passed_of texts = option_map (λ fields. Passed fields) (fields_of texts)
+
+-- an answer without further fields
+abbrev pub alone : Answer → List Bytes → Option Answer
+alone answer [] = Some answer
+alone answer _ = None
+
+-- a failure, possibly with its reason
+abbrev pub said_of : List Bytes → Option Answer
+said_of [] = Some (Internal Said)
+said_of (reason ∷ []) = Some (Internal Said)
+said_of _ = None
+
+abbrev pub exit_of : List Bytes → Option Answer
+exit_of (status ∷ []) = option_map (λ n. Internal (Exit n)) (number status)
+exit_of _ = None
+
+abbrev pub internal_of : List Bytes → Option Answer
+internal_of [] = None
+internal_of (why ∷ rest) =
+    if bytes_eq why (codes "died") then alone (Internal Died) rest
+    else if bytes_eq why (codes "malformed") then alone (Internal Malformed) rest
+    else if bytes_eq why (codes "said") then alone (Internal Said) rest
+    else if bytes_eq why (codes "exit") then exit_of rest
+    else None
+
+-- the answers that workers and scripts both give
+abbrev pub plain_answer : Bytes → List Bytes → Option Answer
+plain_answer word rest =
+    if bytes_eq word (codes "FOUND") then found_of rest
+    else if bytes_eq word (codes "PASSED") then passed_of rest
+    else if bytes_eq word (codes "MISMATCH") then alone Mismatch rest
+    else if bytes_eq word (codes "UNKNOWN") then alone Unknown rest
+    else None
+
+abbrev pub worker_answer_by : Bytes → List Bytes → Option Answer
+worker_answer_by word rest = if bytes_eq word (codes "FAIL") then said_of rest else plain_answer word rest
+
+abbrev pub script_answer_by : Bytes → List Bytes → Option Answer
+script_answer_by word rest = if bytes_eq word (codes "INTERNAL") then internal_of rest else plain_answer word rest
+
+abbrev pub answer_by : (Bytes → List Bytes → Option Answer) → List Bytes → Option Numbered
+answer_by read (word ∷ n ∷ rest) = numbered (number n) (read word rest)
+answer_by read _ = None
+
+-- the answer that a worker's line spells
+unfoldable pub worker_answer : Bytes → Option Numbered
+worker_answer line = answer_by worker_answer_by (line_fields line)
+
+-- the answer that a script's line spells
+unfoldable pub script_answer : Bytes → Option Numbered
+script_answer line = answer_by script_answer_by (line_fields line)
+
+-- an answer to this query: of its number, and of a kind that answers it
+abbrev pub answers_query : Query → Numbered → Bool
+answers_query query p = (p.0 == query.number) && fits query.kind p.1
+
+abbrev pub answer_or_malformed : Query → Option Numbered → Answer
+answer_or_malformed query None = Internal Malformed
+answer_or_malformed query (Some p) = if answers_query query p then p.1 else Internal Malformed
+
+-- what a worker's line is to this query
+unfoldable pub answer_to : Query → Bytes → Answer
+answer_to query line = answer_or_malformed query (worker_answer line)
+
+-- ---- printing
+
+abbrev pub why_words : Why → List Bytes
+why_words Died = codes "died" ∷ []
+why_words Malformed = codes "malformed" ∷ []
+why_words Said = codes "said" ∷ []
+why_words Late = codes "late" ∷ []
+why_words (Exit status) = codes "exit" ∷ decimal status ∷ []
+
+-- the line of an answer; one that is Internal stands in scripts alone
+unfoldable pub answer_line : ℕ → Answer → Bytes
+answer_line n (Found stored fields) = spelled (codes "FOUND" ∷ decimal n ∷ stored ∷ map field_text fields)
+answer_line n (Passed fields) = spelled (codes "PASSED" ∷ decimal n ∷ map field_text fields)
+answer_line n Mismatch = spelled (codes "MISMATCH" ∷ decimal n ∷ [])
+answer_line n Unknown = spelled (codes "UNKNOWN" ∷ decimal n ∷ [])
+answer_line n (Internal why) = spelled (codes "INTERNAL" ∷ decimal n ∷ why_words why)

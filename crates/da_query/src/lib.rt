@@ -1,0 +1,2 @@
+//! The lines between the service and its workers: a query, and the answer to it.
+#![tactic(auto)]

@@ -1,0 +1,51 @@
+// User databases, and what a chain of them comes to.
+
+use da_fields::{Fields, Rule, Text};
+
+/// When a database is passed over.
+#[derive(Clone, Copy, Drop, PartialEq, Eq)]
+pub enum UserSkip {
+    Never,
+    /// Where the user was found already.
+    Found,
+    /// Where the user was not found yet.
+    NotFound,
+}
+
+/// What answers for a database.
+#[derive(Clone, Copy, Drop, PartialEq, Eq)]
+pub enum UserDriver {
+    /// A file in the form of passwd.
+    PasswdFile,
+    /// A worker.
+    Worker,
+    /// The fields that the password databases gave.
+    Prefetch,
+}
+
+/// A user database, as the settings have it. The values of its default and override fields are templates.
+#[derive(Drop)]
+pub struct Userdb {
+    /// Its place among the user databases, counted from 1.
+    pub number: u32,
+    pub driver: UserDriver,
+    /// The path of the file.
+    pub args: Text,
+    pub skip: UserSkip,
+    pub result_success: Rule,
+    pub result_failure: Rule,
+    pub result_internalfail: Rule,
+    pub default_fields: Fields,
+    pub override_fields: Fields,
+}
+
+/// What a chain does next, or how it ends.
+#[derive(Drop)]
+pub enum UserChain {
+    /// It asks this database for the user.
+    Ask { db: u32 },
+    Found { fields: Fields },
+    NotFound,
+    /// The user was not found, and a database gave no answer.
+    Temp,
+}
