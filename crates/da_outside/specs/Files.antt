@@ -1,10 +1,14 @@
 -- What files hold, and what a read of one gives.
-use Rattle.std.specs.Prelude.{ℕ, ◌<◌, ◌≤◌, ◌≡◌, ⊤, List, [], ◌∷◌, length, Option, None, Some, Result, Ok, Err, IfSome, Vec, option_map, unwrap_or, bytes_eq, if◌then◌else◌}
+use Rattle.std.specs.Prelude.{ℕ, ◌<◌, ◌≤◌, ◌≡◌, ⊤, List, [], ◌∷◌, ◌++◌, map, length, Option, None, Some, Result, Ok, Err, IfSome, Vec, option_map, unwrap_or, bytes_eq, if◌then◌else◌}
 use Rattle.std.specs.declared.alloc.Global.{Global}
 use Rattle.da_outside.specs.declared.faults.GetFault.{GetFault}
 use Rattle.da_outside.specs.declared.faults.GetFault.TheVariants.{Failed, Long, NoMemory}
 use Rattle.da_outside.specs.declared.files.FileRead.{FileRead}
-use Rattle.da_outside.specs.Got.{got_of}
+use Rattle.std.specs.Option.{option_map_or}
+use Rattle.da_outside.specs.declared.faults.Got.{Got}
+use Rattle.da_outside.specs.declared.faults.Got.TheVariants.{Fault}
+use Rattle.da_outside.specs.Calls.{Counts, called, fails_next}
+use Rattle.da_outside.specs.Got.{got_of, got_within, is_fault}
 
 -- a file is its path and its bytes
 abbrev pub File : Type 0
@@ -29,3 +33,23 @@ ReadGives held path max (Err NoMemory) = ⊤
 -- what the past keeps of a read
 abbrev pub file_read : List ℕ → Result (Vec ℕ Global) GetFault → Option FileRead
 file_read path result = option_map (λ got. record { path = path; got = got }) (got_of result)
+
+-- ---- files in memory
+
+-- the paths and the bytes of a list of files
+abbrev pub files_of : List (Vec ℕ Global × Vec ℕ Global) → List File
+files_of files = map (λ file. (file.0.items, file.1.items)) files
+
+-- the files that are held, the reads made, and their calls
+pub record FilesState : Type 0 where
+  pub held : List File
+  pub past : List FileRead
+  pub calls : Counts
+
+-- what the next read gives: a fault where the call is one of those that fail, and where no file has the path
+abbrev pub mem_read : FilesState → List ℕ → ℕ → Got
+mem_read files path max = if fails_next files.calls then Fault else option_map_or (got_within max) (file_at files.held path) Fault
+
+-- the files after a read that gave this
+abbrev pub after_read : FilesState → List ℕ → Got → FilesState
+after_read files path got = record { held = files.held; past = files.past ++ record { path = path; got = got } ∷ []; calls = called files.calls (is_fault got) }

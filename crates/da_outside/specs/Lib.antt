@@ -1,4 +1,7 @@
+pub mod Calls
 pub mod Causes
-pub mod Past
-pub mod Got
 pub mod Files
+pub mod Got
+pub mod Past
+pub mod Sink
+pub mod Source

@@ -8,13 +8,18 @@
 #![tactic(auto)]
 
 mod bytes;
+mod calls;
 mod faults;
 mod files;
+mod rest;
 mod sink;
 mod source;
 
 pub use bytes::Bytes;
 pub use faults::{Failed, GetFault, Got};
-pub use files::{FileRead, Files};
-pub use sink::Sink;
-pub use source::Source;
+pub use files::{FileRead, Files, MemFiles, SoundFiles};
+pub use sink::{MemSink, Sink, SoundSink};
+pub use source::{MemSource, SoundSource, Source};
+
+#[cfg(test)]
+mod tests;
