@@ -1,7 +1,9 @@
 pub mod Calls
 pub mod Causes
+pub mod Clock
 pub mod Files
 pub mod Got
 pub mod Past
+pub mod Rand
 pub mod Sink
 pub mod Source

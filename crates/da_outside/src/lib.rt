@@ -9,15 +9,21 @@
 
 mod bytes;
 mod calls;
+mod clock;
 mod faults;
 mod files;
+mod pause;
+mod rand;
 mod rest;
 mod sink;
 mod source;
 
 pub use bytes::Bytes;
+pub use clock::{Clock, SetClock};
 pub use faults::{Failed, GetFault, Got};
 pub use files::{FileRead, Files, MemFiles, SoundFiles};
+pub use pause::{NoPause, Pause};
+pub use rand::{Rand, SetRand};
 pub use sink::{MemSink, Sink, SoundSink};
 pub use source::{MemSource, SoundSource, Source};
 

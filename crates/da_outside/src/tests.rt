@@ -95,3 +95,35 @@ fn the_first_file_of_a_path_is_read(rt: HostRuntime) -> Result<(), Fail> {
     }
     Ok(())
 }
+
+fn draw<G: Rand>(rand: &mut G) -> [u8; 16] {
+    rand.bytes()
+}
+
+fn moment<C: Clock>(clock: &C) -> u64 {
+    clock.now()
+}
+
+fn rest<Z: Pause>(pause: &Z) {
+    pause.rest()
+}
+
+#[test]
+fn what_is_set_is_given_in_order_and_its_last_again(rt: HostRuntime) -> Result<(), Fail> {
+    let mut rand = SetRand::new(&[[1; 16], [2; 16]]);
+    assert_eq!(rt; draw(&mut rand), [1; 16]);
+    let mut fork = rand.fork();
+    for _ in 0..2 {
+        assert_eq!(rt; draw(&mut rand), [2; 16]);
+        assert_eq!(rt; draw(&mut fork), [2; 16]);
+    }
+    assert_eq!(rt; draw(&mut SetRand::new(&[])), [0; 16]);
+
+    let clock = SetClock::new([5, 7].to_vec(rt.alloc())?);
+    for want in [5, 7, 7] {
+        assert_eq!(rt; moment(&clock), want);
+        rest(&NoPause);
+    }
+    assert_eq!(rt; moment(&SetClock::new(Vec::new(rt.alloc()))), 0);
+    Ok(())
+}
