@@ -3,11 +3,14 @@
 //! PBKDF2 (RFC 8018) as functions on lists of bytes.
 #![tactic(auto)]
 
+pub use hmac::{hi, hmac_md5, hmac_sha256};
 pub use keys::ScramKeys;
 pub use octets::Octets;
 pub use scheme::Scheme;
 pub use stored::{SchemeFault, Stored};
 
+mod digest;
+mod hmac;
 mod keys;
 mod octets;
 mod scheme;
