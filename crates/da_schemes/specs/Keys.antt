@@ -1,5 +1,5 @@
 -- The keys of SCRAM-SHA-256 (RFC 5802, section 3; RFC 7677).
-use Rattle.std.specs.Prelude.{ℕ, ◌&&◌, List, [], ◌∷◌, length, Option, Some, None, option_and_then, if◌then◌else◌, nat_le, codes}
+use Rattle.std.specs.Prelude.{◌<◌, ◌≤◌, ℕ, ◌&&◌, List, [], ◌∷◌, length, Option, Some, None, option_and_then, if◌then◌else◌, nat_le, codes}
 use Rattle.sha2.specs.Sha256.{sha256}
 use Rattle.da_base.specs.Words.{Bytes, pieces, number_of, from_base64}
 use Rattle.da_schemes.specs.Hmac.{hmac_sha256, hi}
@@ -25,6 +25,9 @@ keys_of password salt rounds =
 -- ---- the keys as a text: rounds, salt, StoredKey and ServerKey
 
 -- 1 to 100,000 rounds
+abbrev pub IsRoundCount : ℕ → Type 0
+IsRoundCount rounds = (0 < rounds) × (rounds ≤ 100000)
+
 abbrev pub rounds_spelled : Bytes → Option ℕ
 rounds_spelled text = option_and_then (λ rounds. if nat_le 1 rounds then Some rounds else None) (number_of 100000 text)
 

@@ -1,5 +1,5 @@
 -- Stored passwords: how their texts are read, and which plaintext matches one.
-use Rattle.std.specs.Prelude.{ℕ, ◌<◌, ◌≡◌, Bool, [], ◌++◌, length, take, drop, Option, Some, None, option_map, option_and_then, if◌then◌else◌, nat_le, ◌==◌, bytes_eq}
+use Rattle.std.specs.Prelude.{Result, Ok, Err, IsSome, ℕ, ◌≡◌, Bool, [], ◌++◌, length, take, drop, Option, Some, None, option_map, option_and_then, if◌then◌else◌, nat_le, ◌==◌, bytes_eq}
 use Rattle.std.specs.Result.{result_ok}
 use Rattle.hex.specs.Hex.{decode_of}
 use Rattle.md5.specs.Md5.{md5}
@@ -8,7 +8,7 @@ use Rattle.sha2.specs.Sha256.{sha256}
 use Rattle.sha2.specs.Sha512.{sha512}
 use Rattle.da_base.specs.Words.{Bytes, from_base64}
 use Rattle.da_schemes.specs.Hmac.{hi}
-use Rattle.da_schemes.specs.Keys.{stored_key, keys_of, keys_spelled}
+use Rattle.da_schemes.specs.Keys.{IsRoundCount, stored_key, keys_of, keys_spelled}
 use Rattle.da_schemes.specs.Scheme.{kind_of, label_of}
 use Rattle.da_schemes.specs.declared.keys.ScramKeys.{ScramKeys}
 use Rattle.da_schemes.specs.declared.scheme.Scheme.{Scheme}
@@ -18,6 +18,8 @@ use Rattle.da_schemes.specs.declared.scheme.Kind.TheVariants.{Verbatim, Hashed, 
 use Rattle.da_schemes.specs.declared.scheme.Encoding.{Encoding}
 use Rattle.da_schemes.specs.declared.scheme.Encoding.TheVariants.{Base64, Hex}
 use Rattle.da_schemes.specs.declared.scheme.Label.{Label}
+use Rattle.da_schemes.specs.declared.fault.SchemeFault.{SchemeFault}
+use Rattle.da_schemes.specs.declared.fault.SchemeFault.TheVariants.{UnknownScheme, BadText, NoMemory}
 use Rattle.da_schemes.specs.declared.secret.Secret.{Secret}
 use Rattle.da_schemes.specs.declared.secret.Secret.TheVariants.{Plaintext, Digest, Keys}
 
@@ -136,9 +138,26 @@ abbrev pub secret_fits : Kind → ℕ → Secret → Type 0
 secret_fits Verbatim size (Plaintext password) = Unit {0}
 secret_fits Hashed size (Digest digest salt) = (length digest ≡ size) × (salt ≡ [])
 secret_fits Salted size (Digest digest salt) = length digest ≡ size
-secret_fits Scram size (Keys keys) = (0 < keys.rounds) × (keys.rounds < 100001)
+secret_fits Scram size (Keys keys) = IsRoundCount keys.rounds
 secret_fits _ size _ = ⊥
 
 -- the secret is one of its scheme
 abbrev pub IsFitting : Scheme → Secret → Type 0
 IsFitting scheme secret = secret_fits (kind_of scheme) (digest_size scheme) secret
+
+-- ---- results
+
+-- a result is what was told, or want of memory
+abbrev pub IsRead : {A : Type 0} → Option A → Result A SchemeFault → Type 0
+IsRead told (Ok value) = told ≡ Some value
+IsRead told (Err UnknownScheme) = ⊥
+IsRead told (Err BadText) = told ≡ None
+IsRead told (Err NoMemory) = Unit {0}
+
+-- a result is the stored password that the text spells; UnknownScheme exactly where the braces name no scheme or
+-- encoding, else BadText exactly where the text is off its form; or want of memory
+abbrev pub IsReadFrom : Scheme → Bytes → Result StoredPassword SchemeFault → Type 0
+IsReadFrom default text (Ok stored) = stored_password default text ≡ Some stored
+IsReadFrom default text (Err UnknownScheme) = label_of default text ≡ None
+IsReadFrom default text (Err BadText) = IsSome (label_of default text) × (stored_password default text ≡ None)
+IsReadFrom default text (Err NoMemory) = Unit {0}

@@ -3,16 +3,19 @@
 //! PBKDF2 (RFC 8018) as functions on lists of bytes.
 #![tactic(auto)]
 
+pub use fault::SchemeFault;
 pub use hmac::{hi, hmac_md5, hmac_sha256};
 pub use keys::ScramKeys;
 pub use octets::Octets;
 pub use scheme::Scheme;
-pub use stored::{SchemeFault, Stored};
+pub use stored::Stored;
 
 mod digest;
+mod fault;
 mod hmac;
 mod keys;
 mod octets;
+mod read;
 mod scheme;
 mod secret;
 mod stored;

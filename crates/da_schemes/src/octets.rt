@@ -1,5 +1,5 @@
 // A list of bytes.
-ghost use Rattle.std.specs.Prelude.{◌≡◌, IfOk};
+ghost use Rattle.std.specs.Prelude.{◌≡◌, ◌≤◌, length, take, drop, IfOk};
 
 use std::alloc::{AllocError, Global};
 use std::marker::Model;
@@ -38,5 +38,15 @@ impl Octets {
         ensures { IfOk result (λ octets. octets ≡ self.now) }
     {
         Ok(Octets::new(Vec::from_slice(alloc, &self.bytes)?))
+    }
+
+    /// The first bytes up to a place, and those from there on.
+    pub(crate) fn split(mut self, alloc: Global, at: usize) -> Result<(Octets, Octets), AllocError>
+        requires { at ≤ length self }
+        ensures { IfOk result (λ p. (p.0 ≡ take at self) × (p.1 ≡ drop at self)) }
+    {
+        let back = Vec::from_slice(alloc, &self.bytes[at..])?;
+        self.bytes.truncate(at);
+        Ok((self, Octets::new(back)))
     }
 }

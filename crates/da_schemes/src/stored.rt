@@ -1,24 +1,18 @@
 // Stored passwords.
-ghost use Rattle.std.specs.Prelude.{◌≡◌};
+ghost use Rattle.std.specs.Prelude.{◌≡◌, ◌↔◌, IfOk, IsSome, IsTrue};
+ghost use Rattle.std.specs.Option.{option_copied};
+ghost use Rattle.da_schemes.specs.Scheme.{is_plaintext_scheme};
+ghost use Rattle.da_schemes.specs.Stored.{IsRead, IsReadFrom, stored_under, matches, plaintext_of};
 
-use crate::scheme::Scheme;
+use crate::digest::{is_digest, same_bytes};
+use crate::fault::SchemeFault;
+use crate::hmac::hi;
+use crate::keys::stored_key;
+use crate::read::read_secret;
+use crate::scheme::{Label, Scheme, braced};
 use crate::secret::Secret;
+use std::alloc::{AllocError, Global};
 use std::marker::Model;
-use thiserror::Error;
-
-/// Why a text is no stored password.
-#[derive(Debug, Drop, PartialEq, Eq, Error)]
-pub enum SchemeFault {
-    /// The name in braces is no scheme or encoding.
-    #[error("unknown password scheme")]
-    UnknownScheme,
-    /// The text is off its scheme's form.
-    #[error("malformed stored password")]
-    BadText,
-    /// Want of memory.
-    #[error("no memory")]
-    NoMemory,
-}
 
 /// A stored password: a scheme, and what is stored under it.
 #[derive(Drop)]
@@ -43,5 +37,63 @@ impl Stored {
         ensures { result ≡ self.now.scheme }
     {
         self.scheme
+    }
+
+    // The stored password that a text spells under a label.
+    fn labelled(alloc: Global, label: Label, text: &[u8]) -> Result<Stored, SchemeFault>
+        ensures { IsRead (stored_under label text.now) result }
+    {
+        let secret = read_secret(alloc, label, text)?;
+        Ok(Stored { scheme: label.scheme, secret })
+    }
+
+    /// The stored password that a text spells: `{NAME}text`, `{NAME.enc}text`, or a text of the default scheme.
+    /// `UnknownScheme` exactly where the name in braces is no scheme or encoding, else `BadText` exactly where the text
+    /// is off its scheme's form.
+    #[tactic(auto, unfolding(crate::specs::Stored::stored_password))]
+    pub fn read(alloc: Global, default: Scheme, text: &[u8]) -> Result<Stored, SchemeFault>
+        ensures { IsReadFrom default text.now result }
+    {
+        match braced(text) {
+            None => Stored::labelled(alloc, Label { scheme: default, encoding: None }, text),
+            Some((name, rest)) => match Label::read(name) {
+                None => Err(SchemeFault::UnknownScheme),
+                Some(label) => Stored::labelled(alloc, label, rest),
+            },
+        }
+    }
+
+    /// Whether the plaintext matches.
+    #[tactic(auto, unfolding(crate::specs::Stored::matches))]
+    pub fn matches(&self, plain: &[u8]) -> bool
+        ensures { result ≡ matches self.now plain.now }
+    {
+        match &self.secret {
+            Secret::Plaintext(password) => same_bytes(password.bytes(), plain),
+            Secret::Digest(digest, salt) => is_digest(self.scheme, digest.bytes(), plain, salt.bytes()),
+            Secret::Keys(keys) => {
+                let salted = hi(plain, keys.salt.bytes(), keys.rounds);
+                same_bytes(&keys.stored, &stored_key(&salted))
+            }
+        }
+    }
+
+    /// The password itself. `None` exactly where the scheme is neither PLAIN, CLEAR nor CLEARTEXT.
+    pub fn plain(&self) -> Option<&[u8]>
+        ensures value { option_copied result ≡ plaintext_of self.now }
+        ensures scheme { IsSome result ↔ IsTrue (is_plaintext_scheme self.now.scheme) }
+    {
+        match &self.secret {
+            Secret::Plaintext(password) => Some(password.bytes()),
+            Secret::Digest(_, _) | Secret::Keys(_) => None,
+        }
+    }
+
+    /// An equal stored password.
+    pub fn copy(&self, alloc: Global) -> Result<Stored, AllocError>
+        ensures { IfOk result (λ stored. stored ≡ self.now) }
+    {
+        let secret = self.secret.copy(alloc)?;
+        Ok(Stored { scheme: self.scheme, secret })
     }
 }
