@@ -4,3 +4,4 @@ pub mod Keyed
 pub mod Keys
 pub mod Stored
 pub mod Made
+pub mod Memo

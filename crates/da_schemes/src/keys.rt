@@ -33,7 +33,12 @@ pub(crate) fn server_key(salted: &[u8]) -> [u8; 32]
 }
 
 /// The keys of a password under a salt.
-pub(crate) fn keys_of(alloc: Global, password: &[u8], salt: &[u8], rounds: u32) -> Result<ScramKeys, AllocError>
+pub(crate) fn keys_of(
+    alloc: Global,
+    password: &[u8],
+    salt: &[u8],
+    rounds: u32,
+) -> Result<ScramKeys, AllocError>
     requires { 0 < rounds }
     ensures { IfOk result (λ keys. keys ≡ words.keys_of password.now salt.now rounds) }
 {

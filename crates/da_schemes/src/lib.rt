@@ -3,17 +3,21 @@
 //! PBKDF2 (RFC 8018) as functions on lists of bytes.
 #![tactic(auto)]
 
+pub use checked::Checked;
 pub use fault::SchemeFault;
 pub use hmac::{hi, hmac_md5, hmac_sha256};
 pub use keys::ScramKeys;
+pub use making::make;
 pub use octets::Octets;
 pub use scheme::Scheme;
-pub use stored::Stored;
+pub use stored::{Stored, scram_keys};
 
+mod checked;
 mod digest;
 mod fault;
 mod hmac;
 mod keys;
+mod making;
 mod octets;
 mod read;
 mod scheme;

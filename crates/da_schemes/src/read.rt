@@ -115,7 +115,13 @@ fn four_parts(text: &[u8]) -> Option<(&[u8], &[u8], &[u8], &[u8])>
 }
 
 // The keys that four parts spell.
-fn keys_of_parts(alloc: Global, rounds: &[u8], salt: &[u8], stored: &[u8], server: &[u8]) -> Result<ScramKeys, SchemeFault>
+fn keys_of_parts(
+    alloc: Global,
+    rounds: &[u8],
+    salt: &[u8],
+    stored: &[u8],
+    server: &[u8],
+) -> Result<ScramKeys, SchemeFault>
     ensures read { IsRead (keys_in_pieces (rounds.now ∷ salt.now ∷ stored.now ∷ server.now ∷ [])) result }
     ensures fits { IfOk result (λ keys. IsRoundCount keys.rounds) }
 {
@@ -123,7 +129,12 @@ fn keys_of_parts(alloc: Global, rounds: &[u8], salt: &[u8], stored: &[u8], serve
     let salt = read_salt(alloc, salt)?;
     let stored = read_key(alloc, stored)?;
     let server = read_key(alloc, server)?;
-    Ok(ScramKeys { rounds, salt, stored, server })
+    Ok(ScramKeys {
+        rounds,
+        salt,
+        stored,
+        server,
+    })
 }
 
 // The keys that a text spells.

@@ -164,11 +164,17 @@ impl Label {
         ensures { result ≡ words.label_named name.now }
     {
         match split_at_byte(name, b'.') {
-            None => Some(Label { scheme: Scheme::read(name)?, encoding: None }),
+            None => Some(Label {
+                scheme: Scheme::read(name)?,
+                encoding: None,
+            }),
             Some((scheme, encoding)) => {
                 let scheme = Scheme::read(scheme)?;
                 let encoding = Encoding::read(encoding)?;
-                Some(Label { scheme, encoding: Some(encoding) })
+                Some(Label {
+                    scheme,
+                    encoding: Some(encoding),
+                })
             }
         }
     }

@@ -1,13 +1,15 @@
 // Stored passwords.
-ghost use Rattle.std.specs.Prelude.{◌≡◌, ◌↔◌, IfOk, IsSome, IsTrue};
+ghost use Rattle.std.specs.Prelude.{◌≡◌, ◌↔◌, ◌||◌, IfOk, IsSome, IsTrue};
 ghost use Rattle.std.specs.Option.{option_copied};
-ghost use Rattle.da_schemes.specs.Scheme.{is_plaintext_scheme};
+ghost use Rattle.da_schemes.specs.Scheme.{is_plaintext_scheme, is_scram_scheme};
+ghost use Rattle.da_schemes.specs.Stored as words;
 ghost use Rattle.da_schemes.specs.Stored.{IsRead, IsReadFrom, stored_under, matches, plaintext_of};
 
 use crate::digest::{is_digest, same_bytes};
 use crate::fault::SchemeFault;
 use crate::hmac::hi;
-use crate::keys::stored_key;
+use crate::keys::{ScramKeys, keys_of, stored_key};
+use crate::making::ROUNDS;
 use crate::read::read_secret;
 use crate::scheme::{Label, Scheme, braced};
 use crate::secret::Secret;
@@ -44,7 +46,10 @@ impl Stored {
         ensures { IsRead (stored_under label text.now) result }
     {
         let secret = read_secret(alloc, label, text)?;
-        Ok(Stored { scheme: label.scheme, secret })
+        Ok(Stored {
+            scheme: label.scheme,
+            secret,
+        })
     }
 
     /// The stored password that a text spells: `{NAME}text`, `{NAME.enc}text`, or a text of the default scheme.
@@ -55,7 +60,14 @@ impl Stored {
         ensures { IsReadFrom default text.now result }
     {
         match braced(text) {
-            None => Stored::labelled(alloc, Label { scheme: default, encoding: None }, text),
+            None => Stored::labelled(
+                alloc,
+                Label {
+                    scheme: default,
+                    encoding: None,
+                },
+                text,
+            ),
             Some((name, rest)) => match Label::read(name) {
                 None => Err(SchemeFault::UnknownScheme),
                 Some(label) => Stored::labelled(alloc, label, rest),
@@ -70,7 +82,12 @@ impl Stored {
     {
         match &self.secret {
             Secret::Plaintext(password) => same_bytes(password.bytes(), plain),
-            Secret::Digest(digest, salt) => is_digest(self.scheme, digest.bytes(), plain, salt.bytes()),
+            Secret::Digest(digest, salt) => is_digest(
+                self.scheme,
+                digest.bytes(),
+                plain,
+                salt.bytes(),
+            ),
             Secret::Keys(keys) => {
                 let salted = hi(plain, keys.salt.bytes(), keys.rounds);
                 same_bytes(&keys.stored, &stored_key(&salted))
@@ -94,6 +111,26 @@ impl Stored {
         ensures { IfOk result (λ stored. stored ≡ self.now) }
     {
         let secret = self.secret.copy(alloc)?;
-        Ok(Stored { scheme: self.scheme, secret })
+        Ok(Stored {
+            scheme: self.scheme,
+            secret,
+        })
+    }
+}
+
+/// The keys of a stored password for SCRAM-SHA-256: those of a plaintext password under this salt and 4,096 rounds, or
+/// those stored. `None` exactly where the scheme is neither a plaintext scheme nor SCRAM-SHA-256.
+pub fn scram_keys(
+    alloc: Global,
+    stored: &Stored,
+    salt: &[u8; 16],
+) -> Result<Option<ScramKeys>, AllocError>
+    ensures keys { IfOk result (λ keys. keys ≡ words.scram_keys salt.now stored.now) }
+    ensures scheme { IfOk result (λ keys. IsSome keys ↔ IsTrue (is_plaintext_scheme stored.now.scheme || is_scram_scheme stored.now.scheme)) }
+{
+    match &stored.secret {
+        Secret::Plaintext(password) => Ok(Some(keys_of(alloc, password.bytes(), salt, ROUNDS)?)),
+        Secret::Digest(_, _) => Ok(None),
+        Secret::Keys(keys) => Ok(Some(keys.copy(alloc)?)),
     }
 }
