@@ -2,10 +2,12 @@
 //! field: numbers in decimal, what stands before and after a byte, and what stands after a given front.
 #![tactic(auto)]
 
+mod cutter;
 mod numbers;
 mod parts;
 mod pieces;
 
+pub use cutter::{LineFault, Lines};
 pub use numbers::{decimal_number, decimal_u32, number_is_decimal, printed_number_is_read};
 pub use parts::{split_at_byte, strip_front};
 pub use pieces::fields;
