@@ -1,7 +1,6 @@
 -- Lemmas on what bytes are cut into.
-use Rattle.std.proofs.Common.{◌≡◌, ℕ, ◌+◌, ◌<◌, ◌≤◌, Bool, true, false, List, [], ◌∷◌, ◌++◌, length, take, drop, leb, eqb, cond, refl, sym, ap, ◌∙◌, subst, inl, inr, arith, append-nil, append_assoc, Result, Ok, Err}
-use Rattle.std.specs.List.{slice_split, AllByRecursion}
-use Rattle.std.proofs.lemmas.Bool.{cases_Bool, eqb-true, eqb-false, leb-true, leb-false, le-leb, lt-leb}
+use Rattle.std.proofs.Common.{◌≡◌, ℕ, ◌+◌, ◌<◌, ◌≤◌, Bool, true, false, List, [], ◌∷◌, ◌++◌, length, leb, eqb, cond, refl, sym, ap, ◌∙◌, inl, inr, arith, append-nil, append_assoc, Result, Ok, Err}
+use Rattle.std.proofs.lemmas.Bool.{cases_Bool, eqb-true, leb-true, le-leb, lt-leb}
 use Rattle.std.proofs.lemmas.List.{length-append}
 use Rattle.std.proofs.lemmas.List.Elements.{All-nil, All-push, All-append}
 use Rattle.std.proofs.lemmas.List.Splits.{slice_split_none, slice_split_at}
@@ -17,8 +16,8 @@ some_piece : (text : Bytes) → (p : Bytes) × (ps : List Bytes) × (pieces 10 t
 some_piece [] = ([], [], refl)
 some_piece (c ∷ cs) =
     elim (cases_Bool (eqb c 10)) [
-      inl e ↦ ([], pieces 10 cs, rw e)
-    | inr e ↦ let more = some_piece cs in (c ∷ more.0, more.1, rw (e, more.2))
+      | inl e ↦ ([], pieces 10 cs, rw e)
+      | inr e ↦ let more = some_piece cs in (c ∷ more.0, more.1, rw (e, more.2))
     ]
 
 cut_of-cons : (max : ℕ) (line more : Bytes)
@@ -46,13 +45,13 @@ pub line_cut-append : (max : ℕ) (begun bytes : Bytes) → Lacks 10 begun → l
 line_cut-append max begun [] lacks = ap (line_cut max) (append-nil begun) ∙ line_cut_none max begun lacks
 line_cut-append max begun (c ∷ cs) lacks =
     elim (cases_Bool (eqb c 10)) [
-      inl e ↦
-        ap (λ x. line_cut max (begun ++ x ∷ cs)) (eqb-true c 10 e) ∙ line_cut_at max begun cs lacks
-        ∙ rw e (ap (λ cut. cond (leb (length begun) max) (with_lines (begun ∷ []) cut) before_long) (line_cut-append max [] cs (All-nil (λ x. eqb x 10 ≡ false))))
-    | inr e ↦
-        ap (line_cut max) (sym (append_assoc begun (c ∷ []) cs))
-        ∙ line_cut-append max (begun ++ c ∷ []) cs (All-push (λ x. eqb x 10 ≡ false) begun c lacks e)
-        ∙ rw e
+      | inl e ↦
+          ap (λ x. line_cut max (begun ++ x ∷ cs)) (eqb-true c 10 e) ∙ line_cut_at max begun cs lacks
+          ∙ rw e (ap (λ cut. cond (leb (length begun) max) (with_lines (begun ∷ []) cut) before_long) (line_cut-append max [] cs (All-nil (λ x. eqb x 10 ≡ false))))
+      | inr e ↦
+          ap (line_cut max) (sym (append_assoc begun (c ∷ []) cs))
+          ∙ line_cut-append max (begun ++ c ∷ []) cs (All-push (λ x. eqb x 10 ≡ false) begun c lacks e)
+          ∙ rw e
     ]
 
 -- ---- the open line
@@ -68,17 +67,17 @@ nothing_fits max = record { short = omega arith; open_yet = All-nil (λ x. eqb x
 cut_from-fits : (max : ℕ) (begun bytes : Bytes) → Lacks 10 begun → IsFit max (cut_from max begun bytes).rest
 cut_from-fits max begun [] lacks =
     elim (cases_Bool (leb (length begun) max)) [
-      inl e ↦ rw e (record { short = leb-true _ _ e; open_yet = lacks })
-    | inr e ↦ rw e (nothing_fits max)
+      | inl e ↦ rw e (record { short = leb-true _ _ e; open_yet = lacks })
+      | inr e ↦ rw e (nothing_fits max)
     ]
 cut_from-fits max begun (c ∷ cs) lacks =
     elim (cases_Bool (eqb c 10)) [
-      inl e ↦
-        elim (cases_Bool (leb (length begun) max)) [
-          inl f ↦ rw (e, f) (cut_from-fits max [] cs (All-nil (λ x. eqb x 10 ≡ false)))
-        | inr f ↦ rw (e, f) (nothing_fits max)
-        ]
-    | inr e ↦ rw e (cut_from-fits max (begun ++ c ∷ []) cs (All-push (λ x. eqb x 10 ≡ false) begun c lacks e))
+      | inl e ↦
+          elim (cases_Bool (leb (length begun) max)) [
+            | inl f ↦ rw (e, f) (cut_from-fits max [] cs (All-nil (λ x. eqb x 10 ≡ false)))
+            | inr f ↦ rw (e, f) (nothing_fits max)
+          ]
+      | inr e ↦ rw e (cut_from-fits max (begun ++ c ∷ []) cs (All-push (λ x. eqb x 10 ≡ false) begun c lacks e))
     ]
 
 pub line_cut-fits : (max : ℕ) (bytes : Bytes) → IsFit max (line_cut max bytes).rest
@@ -97,7 +96,7 @@ pub after_feed_none : (c : Cutter) (bytes : Bytes) → c.is_long ≡ false → L
 after_feed_none c bytes going lacks more fits =
     let short : leb (length (c.rest ++ bytes)) c.max ≡ true = le-leb _ _ (omega (arith, length-append c.rest bytes)) in
     closed c bytes (open_line (c.rest ++ bytes)) going
-        (line_cut_none c.max (c.rest ++ bytes) (All-append (λ x. eqb x 10 ≡ false) c.rest bytes lacks more) ∙ rw short)
+    (line_cut_none c.max (c.rest ++ bytes) (All-append (λ x. eqb x 10 ≡ false) c.rest bytes lacks more) ∙ rw short)
     ∙ rw (append-nil c.ready, going)
 
 pub after_feed_none_long : (c : Cutter) (bytes : Bytes) → c.is_long ≡ false → Lacks 10 c.rest → Lacks 10 bytes → c.max < length c.rest + length bytes
@@ -105,7 +104,7 @@ pub after_feed_none_long : (c : Cutter) (bytes : Bytes) → c.is_long ≡ false 
 after_feed_none_long c bytes going lacks more longer =
     let long : leb (length (c.rest ++ bytes)) c.max ≡ false = lt-leb _ _ (omega (arith, length-append c.rest bytes)) in
     closed c bytes before_long going
-        (line_cut_none c.max (c.rest ++ bytes) (All-append (λ x. eqb x 10 ≡ false) c.rest bytes lacks more) ∙ rw long)
+    (line_cut_none c.max (c.rest ++ bytes) (All-append (λ x. eqb x 10 ≡ false) c.rest bytes lacks more) ∙ rw long)
     ∙ rw (append-nil c.ready)
 
 cut_at_end : (c : Cutter) (end more : Bytes) → Lacks 10 c.rest → Lacks 10 end
@@ -119,7 +118,7 @@ pub after_feed_end : (c : Cutter) (end more : Bytes) → c.is_long ≡ false →
 after_feed_end c end more going lacks ended fits lines rest is_long cut =
     let short : leb (length (c.rest ++ end)) c.max ≡ true = le-leb _ _ (omega (arith, length-append c.rest end)) in
     closed c (end ++ 10 ∷ more) (with_lines ((c.rest ++ end) ∷ []) (record { lines = lines; rest = rest; is_long = is_long })) going
-        (cut_at_end c end more lacks ended ∙ rw (short, ← cut))
+    (cut_at_end c end more lacks ended ∙ rw (short, ← cut))
     ∙ rw (append_assoc c.ready ((c.rest ++ end) ∷ []) lines)
 
 pub after_feed_end_long : (c : Cutter) (end more : Bytes) → c.is_long ≡ false → Lacks 10 c.rest → Lacks 10 end → c.max < length c.rest + length end

@@ -1,5 +1,6 @@
 -- Lines of a stream: what a text is cut into, and what a cutter of lines holds.
-use Rattle.std.specs.Prelude.{◌≡◌, ℕ, ◌+◌, ◌<◌, ◌≤◌, Bool, true, false, List, [], ◌∷◌, ◌++◌, length, take, drop, if◌then◌else◌, nat_le}
+use Rattle.std.specs.Prelude.{◌≡◌, ℕ, ◌<◌, ◌≤◌, Bool, true, false, List, [], ◌∷◌, ◌++◌, length, take, drop, if◌then◌else◌, nat_le}
+use Rattle.std.specs.Bool.{MatchBool}
 use Rattle.std.specs.List.{flat_map, AllByRecursion}
 use Rattle.da_base.specs.Words.{Bytes, pieces}
 use Rattle.da_tabline.specs.Parts.{Lacks}
@@ -50,6 +51,12 @@ cut_of max (piece ∷ next ∷ pieces) =
 abbrev pub line_cut : ℕ → Bytes → LineCut
 line_cut max bytes = cut_of max (pieces 10 bytes)
 
+-- no line is longer than max, and either they and the rest are all bytes, or something longer begins after them
+pub record IsLineCut (max : ℕ) (bytes : Bytes) (cut : LineCut) : Type 0 where
+  pub short : AllByRecursion (λ line. length line ≤ max) cut.lines
+  pub whole :
+      MatchBool cut.is_long (AreLinesBeforeLong max bytes cut.lines × (cut.rest ≡ [])) (AreLines bytes cut.lines cut.rest × (length cut.rest ≤ max))
+
 -- ---- a cutter of lines
 
 -- the length of the longest line that is right, the whole lines that were not taken yet, the open line after them, and
@@ -68,6 +75,12 @@ abbrev pub after_feed : Cutter → Bytes → Cutter
 after_feed cutter bytes =
     let cut = line_cut cutter.max (cutter.rest ++ bytes) in
     if cutter.is_long then cutter else record { max = cutter.max; ready = cutter.ready ++ cut.lines; rest = cut.rest; is_long = cut.is_long }
+
+-- the cutter after these bytes from the first on, when the first n lines have been taken
+abbrev pub cutter_after : ℕ → Bytes → ℕ → Cutter
+cutter_after max bytes n =
+    let cut = line_cut max bytes in
+    record { max = max; ready = drop n cut.lines; rest = cut.rest; is_long = cut.is_long }
 
 -- ---- any feeds, and any lines taken between them
 

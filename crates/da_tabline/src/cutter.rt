@@ -123,7 +123,9 @@ impl Lines {
             rest,
             is_long,
         } = cut;
-        if self.open_line.reserve(end.len()).is_err() || self.ready.reserve(lines.len() + 1).is_err() {
+        if self.open_line.reserve(end.len()).is_err()
+            || self.ready.reserve(lines.len() + 1).is_err()
+        {
             return Err(LineFault::NoMemory);
         }
         self.open_line.extend_from_slice(end).unwrap();
@@ -179,13 +181,25 @@ fn cut_bytes(alloc: Global, max: usize, bytes: &[u8]) -> Result<Cut, AllocError>
     let mut left = bytes;
     while let Some((line, more)) = split_at_byte(left, b'\n') {
         if line.len() > max {
-            return Ok(Cut { lines, rest: Vec::new(alloc), is_long: true });
+            return Ok(Cut {
+                lines,
+                rest: Vec::new(alloc),
+                is_long: true,
+            });
         }
         lines.push_back(Vec::from_slice(alloc, line)?)?;
         left = more;
     }
     if left.len() > max {
-        return Ok(Cut { lines, rest: Vec::new(alloc), is_long: true });
+        return Ok(Cut {
+            lines,
+            rest: Vec::new(alloc),
+            is_long: true,
+        });
     }
-    Ok(Cut { lines, rest: Vec::from_slice(alloc, left)?, is_long: false })
+    Ok(Cut {
+        lines,
+        rest: Vec::from_slice(alloc, left)?,
+        is_long: false,
+    })
 }

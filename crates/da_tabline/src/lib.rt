@@ -3,11 +3,13 @@
 #![tactic(auto)]
 
 mod cutter;
+mod laws;
 mod numbers;
 mod parts;
 mod pieces;
 
 pub use cutter::{LineFault, Lines};
+pub use laws::{a_text_has_one_cut, any_cuts_give_the_same_lines, the_cut_is_of_whole_lines};
 pub use numbers::{decimal_number, decimal_u32, number_is_decimal, printed_number_is_read};
 pub use parts::{split_at_byte, strip_front};
 pub use pieces::fields;

@@ -9,8 +9,8 @@ returns-then-end-self c =
     let rest : c.self.inside.open_line.items ≡ c.args.self.now.rest = ap (λ s. s.rest) c.self.view_is in
     let most : c.self.inside.max ≡ c.args.self.now.max = ap (λ s. s.max) c.self.view_is in
     let long =
-        after_feed_end_long c.args.self.now c.args.end.now c.args.more.now c.requires.going (subst (Lacks 10) rest c.self.invariant.2) c.requires.no_end
-            (omega (arith, c.self.inside.open_line.ok, ap length rest)) in
+    after_feed_end_long c.args.self.now c.args.end.now c.args.more.now c.requires.going (subst (Lacks 10) rest c.self.invariant.2) c.requires.no_end
+    (omega (arith, c.self.inside.open_line.ok, ap length rest)) in
     (c.give_up.ensures ∙ sym long, ap (λ s. s.is_long) c.give_up.ensures)
 
 pub keep-requires-clause-open_fits : goal.keep-requires-clause-open_fits
@@ -30,6 +30,6 @@ returns c =
     let rest : c.self.inside.open_line.items ≡ c.args.self.now.rest = ap (λ s. s.rest) c.self.view_is in
     let most : c.self.inside.max ≡ c.args.self.now.max = ap (λ s. s.max) c.self.view_is in
     keep_feeds c.args.self.now _ _ _ _ _ c.keep.new.self c.keep.result
-        (after_feed_end c.args.self.now c.args.end.now c.args.more.now c.requires.going (subst (Lacks 10) rest c.self.invariant.2) c.requires.no_end
-            (omega (arith, c.self.inside.open_line.ok, ap length rest)) _ _ _ (c.in-Ok.ensures.cut ∙ ap (λ max. line_cut max c.args.more.now) most))
-        c.keep.ensures
+    (after_feed_end c.args.self.now c.args.end.now c.args.more.now c.requires.going (subst (Lacks 10) rest c.self.invariant.2) c.requires.no_end
+    (omega (arith, c.self.inside.open_line.ok, ap length rest)) _ _ _ (c.in-Ok.ensures.cut ∙ ap (λ max. line_cut max c.args.more.now) most))
+    c.keep.ensures

@@ -1,0 +1,25 @@
+// What holds of the lines of every stream.
+
+ghost use Rattle.std.specs.Prelude.{◌≡◌, ℕ, List, ◌++◌};
+ghost use Rattle.da_base.specs.Words.{Bytes};
+ghost use Rattle.da_tabline.specs.Lines.{AreLines, IsLineCut, Use, after_uses, bytes_fed, line_cut, lines_taken, new_cutter};
+
+/// Bytes are whole lines and an open line in one way alone.
+pub fn a_text_has_one_cut()
+    ensures { (bytes : Bytes) (lines others : List Bytes) (rest other : Bytes) → AreLines bytes lines rest → AreLines bytes others other
+        → (lines ≡ others) × (rest ≡ other) }
+{}
+
+/// What bytes are cut into are their whole lines and their open line, up to the first line that is too long.
+pub fn the_cut_is_of_whole_lines()
+    ensures { (max : ℕ) (bytes : Bytes) → IsLineCut max bytes (line_cut max bytes) }
+{}
+
+/// In whatever pieces a stream is fed, and whenever lines are taken, the lines taken, those that can be taken and the
+/// open line are what all bytes fed are cut into, and too long a line was told of exactly where there is one.
+pub fn any_cuts_give_the_same_lines()
+    ensures { (max : ℕ) (uses : List Use) →
+        (lines_taken (new_cutter max) uses ++ (after_uses (new_cutter max) uses).ready ≡ (line_cut max (bytes_fed uses)).lines)
+        × ((after_uses (new_cutter max) uses).rest ≡ (line_cut max (bytes_fed uses)).rest)
+        × ((after_uses (new_cutter max) uses).is_long ≡ (line_cut max (bytes_fed uses)).is_long) }
+{}
