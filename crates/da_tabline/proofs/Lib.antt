@@ -1,3 +1,4 @@
+pub mod EscapeLemmas
 pub mod LineLemmas
 pub mod NumberLemmas
 pub mod PartLemmas
