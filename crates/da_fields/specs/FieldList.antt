@@ -1,5 +1,5 @@
 -- Fields: pairs of a key and a value, with distinct keys.
-use Rattle.std.specs.Prelude.{◌≡◌, Bool, false, ◌&&◌, ◌||◌, not, List, [], ◌∷◌, ◌++◌, length, drop, map, filter, Option, Some, None, if◌then◌else◌, nat_lt, bytes_eq, codes, is_some}
+use Rattle.std.specs.Prelude.{◌≡◌, ℕ, ◌+◌, ◌<◌, take, Bool, false, ◌&&◌, ◌||◌, not, List, [], ◌∷◌, ◌++◌, length, drop, map, filter, Option, Some, None, if◌then◌else◌, nat_lt, bytes_eq, codes, is_some}
 use Rattle.da_base.specs.Words.{Bytes, begins_with, before_byte, after_byte, option_or_else, is_empty}
 
 abbrev pub Pairs : Type 0
@@ -69,3 +69,10 @@ LacksKey key (p ∷ pairs) = (bytes_eq key p.0 ≡ false) × LacksKey key pairs
 abbrev pub AreDistinct : Pairs → Type 0
 AreDistinct [] = Unit {0}
 AreDistinct (p ∷ pairs) = LacksKey p.0 pairs × AreDistinct pairs
+
+-- the first pair of this key stands at this index
+pub record IsPlaceOf (key : Bytes) (pairs : Pairs) (at : ℕ) : Type 0 where
+  pub within : at < length pairs
+  pub before : LacksKey key (take at pairs)
+  pub value : Bytes
+  pub here : pairs ≡ take at pairs ++ (key, value) ∷ drop (at + 1) pairs

@@ -1,7 +1,10 @@
 // Queries and answers.
 
+ghost use Rattle.std.specs.Prelude.{◌≡◌, IfOk};
+
 use crate::fields::Fields;
 use crate::text::Text;
+use std::alloc::{AllocError, Global};
 
 /// Why a database gave no answer of its own.
 #[derive(Clone, Copy, Drop, PartialEq, Eq)]
@@ -33,6 +36,26 @@ pub enum Answer {
     Internal(Why),
 }
 
+impl Answer {
+    /// An equal answer.
+    pub fn copy(&self, alloc: Global) -> Result<Answer, AllocError>
+        ensures { IfOk result (λ answer. answer ≡ self.now) }
+    {
+        Ok(match self {
+            Answer::Found { stored, fields } => Answer::Found {
+                stored: stored.copy(alloc)?,
+                fields: fields.copy(alloc)?,
+            },
+            Answer::Passed { fields } => Answer::Passed {
+                fields: fields.copy(alloc)?,
+            },
+            Answer::Mismatch => Answer::Mismatch,
+            Answer::Unknown => Answer::Unknown,
+            Answer::Internal(why) => Answer::Internal(*why),
+        })
+    }
+}
+
 /// What a query asks for.
 #[derive(Clone, Copy, Drop, PartialEq, Eq)]
 pub enum QueryKind {
@@ -55,4 +78,23 @@ pub struct Query {
     pub user: Text,
     /// The password to check, for a query of the kind `Check` alone.
     pub password: Option<Text>,
+}
+
+impl Query {
+    /// An equal query.
+    pub fn copy(&self, alloc: Global) -> Result<Query, AllocError>
+        ensures { IfOk result (λ query. query ≡ self.now) }
+    {
+        let password = match &self.password {
+            Some(password) => Some(password.copy(alloc)?),
+            None => None,
+        };
+        Ok(Query {
+            number: self.number,
+            kind: self.kind,
+            db: self.db,
+            user: self.user.copy(alloc)?,
+            password,
+        })
+    }
 }

@@ -4,12 +4,17 @@
 
 mod answer;
 mod fields;
+mod merging;
 mod outcome;
 mod said;
 mod text;
 
 pub use answer::{Answer, Query, QueryKind, Why};
 pub use fields::Fields;
+pub use merging::{merge, userdb_part, visible};
 pub use outcome::{Outcome, Rule};
 pub use said::Said;
 pub use text::Text;
+
+#[cfg(test)]
+mod tests;

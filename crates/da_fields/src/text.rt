@@ -1,7 +1,8 @@
 // Texts.
 
-ghost use Rattle.std.specs.Prelude.{◌≡◌};
+ghost use Rattle.std.specs.Prelude.{◌≡◌, IfOk};
 
+use std::alloc::{AllocError, Global};
 use std::marker::Model;
 
 /// A text as it stands in lines and settings: a list of bytes, of any encoding.
@@ -31,5 +32,14 @@ impl Text {
         ensures { result.now ≡ self.now }
     {
         &self.bytes
+    }
+
+    /// An equal text.
+    pub fn copy(&self, alloc: Global) -> Result<Text, AllocError>
+        ensures { IfOk result (λ text. text ≡ self.now) }
+    {
+        Ok(Text {
+            bytes: Vec::from_slice(alloc, &self.bytes)?,
+        })
     }
 }
