@@ -2,4 +2,5 @@ pub mod EscapeLemmas
 pub mod LineLemmas
 pub mod NumberLemmas
 pub mod PartLemmas
+pub mod SpellingLemmas
 pub mod StreamLemmas
