@@ -1,0 +1,2 @@
+pub mod FieldSpelling
+pub mod LineSpelling

@@ -1,4 +1,6 @@
 pub mod Lines
 pub mod ClientMessages
+pub mod ClientSpelling
 pub mod MasterMessages
+pub mod MasterSpelling
 pub mod Replies

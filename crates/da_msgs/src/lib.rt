@@ -3,9 +3,14 @@
 #![tactic(auto)]
 
 mod client;
+mod greetings;
 mod kinds;
 mod master;
+mod parameters;
+mod printing;
+mod reading;
 
 pub use client::{ClientMsg, Reply};
+pub use greetings::handshake;
 pub use kinds::{ConnKind, Mech};
 pub use master::{MasterMsg, MasterReply};

@@ -1,0 +1,139 @@
+// The lines that open a connection.
+
+ghost use Rattle.std.specs.Prelude.{◌≡◌, ◌<◌, ◌++◌, ◌∷◌, [], IfOk, OnOk, map, codes, decimal};
+ghost use Rattle.da_base.specs.Words.{hex, hex_digit};
+ghost use Rattle.da_tabline.specs.Escapes.{spelled};
+ghost use Rattle.da_tabline.specs.Spelling.{more_fields};
+ghost use Rattle.da_msgs.specs.Replies.{greeting, version_line, server_line, mechanism_line, mechanism_name, mechanism_flags};
+
+use crate::kinds::{ConnKind, Mech};
+use crate::printing::begin_reply;
+use da_fields::Text;
+use da_tabline::{begin_line, push_field};
+use std::alloc::{AllocError, Global};
+
+/// The lines that open a connection of this kind and number, each without its LF: to a client the version, the
+/// mechanisms, the server's process number, the connection's number and its cookie, and to a master the version and the
+/// process number.
+#[tactic(auto, unfolding(crate::specs::Replies::greeting))]
+pub fn handshake(
+    alloc: Global,
+    kind: ConnKind,
+    mechs: &[Mech],
+    pid: u32,
+    number: u32,
+    cookie: &[u8; 16],
+) -> Result<Vec<Text>, AllocError>
+    ensures { IfOk result (λ lines. lines.items ≡ greeting kind mechs.now pid number (hex cookie.now)) }
+{
+    match kind {
+        ConnKind::Client => client_lines(alloc, mechs, pid, number, cookie),
+        ConnKind::Master => master_lines(alloc, pid),
+    }
+}
+
+fn client_lines(
+    alloc: Global,
+    mechs: &[Mech],
+    pid: u32,
+    number: u32,
+    cookie: &[u8; 16],
+) -> Result<Vec<Text>, AllocError>
+    ensures { IfOk result (λ lines. lines.items ≡ version_line ∷ (map mechanism_line mechs.now
+        ++ (server_line pid ∷ spelled (codes "CUID" ∷ decimal number ∷ []) ∷ spelled (codes "COOKIE" ∷ hex cookie.now ∷ []) ∷ codes "DONE" ∷ []))) }
+{
+    let mut lines = Vec::new(alloc);
+    lines.push(first_line(alloc)?)?;
+    for mech in mechs {
+        lines.push(line_of(alloc, *mech)?)?;
+    }
+    lines.push(number_line(alloc, b"SPID", pid)?)?;
+    lines.push(number_line(alloc, b"CUID", number)?)?;
+    lines.push(cookie_line(alloc, cookie)?)?;
+    lines.push(Text::new(begin_line(alloc, b"DONE")?))?;
+    Ok(lines)
+}
+
+fn master_lines(alloc: Global, pid: u32) -> Result<Vec<Text>, AllocError>
+    ensures { IfOk result (λ lines. lines.items ≡ version_line ∷ server_line pid ∷ []) }
+{
+    let mut lines = Vec::new(alloc);
+    lines.push(first_line(alloc)?)?;
+    lines.push(number_line(alloc, b"SPID", pid)?)?;
+    Ok(lines)
+}
+
+fn first_line(alloc: Global) -> Result<Text, AllocError>
+    ensures { IfOk result (λ line. line ≡ version_line) }
+{
+    let mut line = begin_line(alloc, b"VERSION")?;
+    push_field(&mut line, b"1")?;
+    push_field(&mut line, b"1")?;
+    Ok(Text::new(line))
+}
+
+fn number_line(alloc: Global, word: &[u8], number: u32) -> Result<Text, AllocError>
+    ensures { IfOk result (λ line. line ≡ spelled (word.now ∷ decimal number ∷ [])) }
+{
+    Ok(Text::new(begin_reply(alloc, word, number)?))
+}
+
+fn line_of(alloc: Global, mech: Mech) -> Result<Text, AllocError>
+    ensures { IfOk result (λ line. line ≡ mechanism_line mech) }
+{
+    let mut line = begin_line(alloc, b"MECH")?;
+    push_field(&mut line, name_of(mech))?;
+    push_flags(&mut line, mech)?;
+    Ok(Text::new(line))
+}
+
+fn name_of(mech: Mech) -> &'static [u8]
+    ensures { result.now ≡ mechanism_name mech }
+{
+    match mech {
+        Mech::Plain => b"PLAIN",
+        Mech::Login => b"LOGIN",
+        Mech::CramMd5 => b"CRAM-MD5",
+        Mech::ScramSha256 => b"SCRAM-SHA-256",
+    }
+}
+
+fn push_flags(line: &mut Vec<u8>, mech: Mech) -> Result<(), AllocError>
+    ensures { OnOk result (line.new.items ≡ line.old.items ++ more_fields (mechanism_flags mech)) }
+{
+    match mech {
+        Mech::Plain | Mech::Login => push_field(line, b"plaintext"),
+        Mech::CramMd5 => {
+            push_field(line, b"dictionary")?;
+            push_field(line, b"active")
+        }
+        Mech::ScramSha256 => push_field(line, b"mutual-auth"),
+    }
+}
+
+fn cookie_line(alloc: Global, cookie: &[u8; 16]) -> Result<Text, AllocError>
+    ensures { IfOk result (λ line. line ≡ spelled (codes "COOKIE" ∷ hex cookie.now ∷ [])) }
+{
+    let mut line = begin_line(alloc, b"COOKIE")?;
+    push_field(&mut line, &hex_text(alloc, cookie)?)?;
+    Ok(Text::new(line))
+}
+
+// Two lower-case hexadecimal digits for each byte.
+fn hex_text(alloc: Global, bytes: &[u8]) -> Result<Vec<u8>, AllocError>
+    ensures { IfOk result (λ text. text.items ≡ hex bytes.now) }
+{
+    let mut text = Vec::new(alloc);
+    for byte in bytes {
+        text.push(digit_of(*byte / 16))?;
+        text.push(digit_of(*byte % 16))?;
+    }
+    Ok(text)
+}
+
+fn digit_of(n: u8) -> u8
+    requires { n < 16 }
+    ensures { result ≡ hex_digit n }
+{
+    if n <= 9 { b'0' + n } else { b'a' - 10 + n }
+}
