@@ -8,11 +8,15 @@ abbrev pub endings : Bytes → List Bytes
 endings [] = [] ∷ []
 endings (x ∷ xs) = (x ∷ xs) ∷ endings xs
 
+-- a question mark stands for any one byte, another byte for itself
+abbrev pub fits_byte : ℕ → ℕ → Bool
+fits_byte p x = (p == 63) || (p == x)
+
 abbrev pub first_matches : ℕ → (Bytes → Bool) → Bytes → Bool
 first_matches p rest [] = false
-first_matches p rest (x ∷ xs) = ((p == 63) || (p == x)) && rest xs
+first_matches p rest (x ∷ xs) = fits_byte p x && rest xs
 
--- a star stands for any bytes, a question mark for any one byte
+-- a star stands for any bytes, also none
 abbrev pub pattern_matches : Bytes → Bytes → Bool
 pattern_matches [] = λ name. is_empty name
 pattern_matches (p ∷ ps) = λ name. if p == 42 then list_any (pattern_matches ps) (endings name) else first_matches p (pattern_matches ps) name

@@ -1,3 +1,4 @@
 pub mod Names
 pub mod Filters
 pub mod Templates
+pub mod Stars

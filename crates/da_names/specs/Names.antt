@@ -6,7 +6,7 @@ use Rattle.da_base.specs.Words.{Bytes, before_byte, after_byte, is_empty}
 
 -- a name of 1 to 255 bytes, each of the characters that names may have
 abbrev pub is_name : Bytes → Bytes → Bool
-is_name chars name = not (is_empty name) && nat_le (length name) 255 && list_all (λ c. list_any (λ d. c == d) chars) name
+is_name chars name = not (is_empty name) && nat_le (length name) 255 && list_all (λ c. list_any (λ d. d == c) chars) name
 
 -- the name made normal, where it is a valid user name
 abbrev pub normal : Bytes → Bool → Bytes → Option Bytes

@@ -1,7 +1,8 @@
 // The variables of templates.
 
-ghost use Rattle.std.specs.Prelude.{◌≡◌};
+ghost use Rattle.std.specs.Prelude.{◌≡◌, IfOk};
 
+use std::alloc::{AllocError, Global};
 use std::marker::Model;
 
 /// The value of a variable: a list of bytes.
@@ -32,6 +33,15 @@ impl VarText {
     {
         &self.bytes
     }
+
+    /// An equal value.
+    pub fn copy(&self, alloc: Global) -> Result<VarText, AllocError>
+        ensures { IfOk result (λ made. made ≡ self.now) }
+    {
+        Ok(VarText {
+            bytes: Vec::from_slice(alloc, &self.bytes)?,
+        })
+    }
 }
 
 /// What the variables of a template stand for.
@@ -45,4 +55,18 @@ pub struct Vars {
     pub rip: VarText,
     /// The address of the server, or empty where it is not known: `%l`.
     pub lip: VarText,
+}
+
+impl Vars {
+    /// Equal values.
+    pub fn copy(&self, alloc: Global) -> Result<Vars, AllocError>
+        ensures { IfOk result (λ made. made ≡ self.now) }
+    {
+        Ok(Vars {
+            user: self.user.copy(alloc)?,
+            service: self.service.copy(alloc)?,
+            rip: self.rip.copy(alloc)?,
+            lip: self.lip.copy(alloc)?,
+        })
+    }
 }
