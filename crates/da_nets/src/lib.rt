@@ -2,5 +2,11 @@
 #![tactic(auto)]
 
 mod address;
+mod network;
+mod parts;
 
-pub use address::{Ip, Net};
+pub use address::Ip;
+pub use network::{Net, allowed};
+
+#[cfg(test)]
+mod tests;
