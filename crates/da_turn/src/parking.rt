@@ -1,0 +1,72 @@
+//! Where threads sleep until their turn comes, so that a turn that is passed on wakes the next thread alone.
+
+use std::array;
+use std::sync::Wait;
+use std::sync::atomic::{AtomicU64, Ordering};
+
+// Threads whose numbers are this far apart share a bay.
+const BAYS: usize = 64;
+
+/// A place to sleep.
+#[derive(Drop)]
+pub(crate) struct Bay {
+    /// How many threads sleep here or are about to.
+    parked: AtomicU64,
+    /// How often they were called.
+    calls: AtomicU64,
+}
+
+/// The bays, of which each number has one.
+#[derive(Drop)]
+pub(crate) struct Parking {
+    bays: [Bay; BAYS],
+}
+
+impl Bay {
+    fn new() -> Bay {
+        Bay {
+            parked: AtomicU64::new(0),
+            calls: AtomicU64::new(0),
+        }
+    }
+
+    /// Announces a thread that will sleep here. It looks for its turn once more before it does, so no call is lost.
+    pub(crate) fn arrive(&self) {
+        self.parked.fetch_add(1, Ordering::SeqCst);
+    }
+
+    pub(crate) fn depart(&self) {
+        self.parked.fetch_sub(1, Ordering::SeqCst);
+    }
+
+    /// The number of calls so far.
+    pub(crate) fn calls(&self) -> u64 {
+        self.calls.load(Ordering::SeqCst)
+    }
+
+    /// Sleeps until a call after these.
+    pub(crate) fn sleep<R: Wait>(&self, rt: &R, calls: u64) {
+        self.calls.park(rt, (calls % (1 << 32)) as u32);
+    }
+
+    /// Wakes those who sleep here. Where nobody does, it makes no system call.
+    pub(crate) fn call(&self) {
+        if self.parked.load(Ordering::SeqCst) > 0 {
+            self.calls.fetch_add(1, Ordering::SeqCst);
+            self.calls.wake_all();
+        }
+    }
+}
+
+impl Parking {
+    pub(crate) fn new() -> Parking {
+        Parking {
+            bays: array::from_fn(|_| Bay::new()),
+        }
+    }
+
+    /// The bay of whoever drew this number.
+    pub(crate) fn bay(&self, number: u64) -> &Bay {
+        &self.bays[(number % BAYS as u64) as usize]
+    }
+}
