@@ -1,4 +1,5 @@
-//! Where threads sleep until their turn comes, so that a turn that is passed on wakes the next thread alone.
+//! Where threads sleep until their turn comes. Whoever passes the turn on wakes the next thread, and
+//! the others sleep on.
 
 use std::array;
 use std::sync::Wait;
@@ -30,7 +31,8 @@ impl Bay {
         }
     }
 
-    /// Announces a thread that will sleep here. It looks for its turn once more before it does, so no call is lost.
+    /// Announces a thread that is about to sleep here. It reads `calls` and then looks for its turn
+    /// once more, so that no call is lost.
     pub(crate) fn arrive(&self) {
         self.parked.fetch_add(1, Ordering::SeqCst);
     }
