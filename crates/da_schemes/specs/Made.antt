@@ -1,9 +1,9 @@
 -- The text of a password stored anew.
-use Rattle.std.specs.Prelude.{◌++◌, take, codes}
+use Rattle.std.specs.Prelude.{◌≡◌, true, Some, ◌++◌, take, codes}
 use Rattle.hex.specs.Hex.{encode_lower}
 use Rattle.da_base.specs.Words.{Bytes, to_base64}
 use Rattle.da_schemes.specs.Keys.{keys_of}
-use Rattle.da_schemes.specs.Stored.{digest_by}
+use Rattle.da_schemes.specs.Stored.{StoredPassword, digest_by, stored_password, matches}
 use Rattle.da_schemes.specs.Scheme.{scheme_name, kind_of}
 use Rattle.da_schemes.specs.declared.keys.ScramKeys.{ScramKeys}
 use Rattle.da_schemes.specs.declared.scheme.Scheme.{Scheme}
@@ -30,3 +30,10 @@ text_made Scram scheme plain salt = keys_text (keys_of plain salt 4096)
 -- the scheme's name in braces, and the text after them
 abbrev pub made : Scheme → Bytes → Bytes → Bytes
 made scheme plain salt = codes "{" ++ scheme_name scheme ++ codes "}" ++ text_made (kind_of scheme) scheme plain salt
+
+-- the text is read as a stored password of this scheme, and the plaintext matches it
+pub record IsMade (default scheme : Scheme) (plain text : Bytes) : Type 0 where
+  pub stored : StoredPassword
+  pub read : stored_password default text ≡ Some stored
+  pub same_scheme : stored.scheme ≡ scheme
+  pub matched : matches stored plain ≡ true
