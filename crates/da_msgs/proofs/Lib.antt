@@ -1,2 +1,4 @@
+pub mod ClientReading
 pub mod FieldSpelling
 pub mod LineSpelling
+pub mod MasterReading

@@ -5,6 +5,7 @@
 mod client;
 mod greetings;
 mod kinds;
+mod laws;
 mod master;
 mod parameters;
 mod printing;
@@ -13,4 +14,8 @@ mod reading;
 pub use client::{ClientMsg, Reply};
 pub use greetings::handshake;
 pub use kinds::{ConnKind, Mech};
+pub use laws::{
+    a_client_line_is_read_as_it_spells, a_client_line_spells_one_message,
+    a_master_line_is_read_as_it_spells, a_master_line_spells_one_message,
+};
 pub use master::{MasterMsg, MasterReply};

@@ -1,0 +1,72 @@
+-- A line of a master is read as a message exactly where it spells it.
+use Rattle.std.proofs.Common.{◌≡◌, ℕ, Bool, true, false, List, [], ◌∷◌, Option, Some, None, cond, refl, sym, ap, ◌∙◌, subst, inl, inr}
+use Rattle.std.specs.Prelude.{bytes_eq, codes, option_map}
+use Rattle.std.proofs.lemmas.Bool.{cases_Bool}
+use Rattle.std.proofs.lemmas.Option.{same_Some}
+use Rattle.da_base.specs.Words.{Bytes, number}
+use Rattle.da_tabline.specs.Escapes.{line_fields}
+use Rattle.da_msgs.specs.Lines.{fits_a_line}
+use Rattle.da_msgs.specs.ClientMessages.{version_of}
+use Rattle.da_msgs.specs.MasterMessages.{master_message, master_message_of, request_of, request_with}
+use Rattle.da_msgs.specs.MasterSpelling.{MasterFieldsSpell, SpellsMaster}
+use Rattle.da_msgs.specs.declared.master.MasterMsg.{MasterMsg}
+use Rattle.da_msgs.specs.declared.master.MasterMsg.TheVariants.{Version, Request, Other}
+use Rattle.da_msgs.proofs.FieldSpelling.{fits_parts, fits_from, word_is, some_of_map, version_parts, version_from}
+
+version_case : (word : Bytes) (rest : List Bytes) (m : MasterMsg) → word ≡ codes "VERSION" → option_map (λ v. Version v.0 v.1) (version_of rest) ≡ Some m
+    → MasterFieldsSpell (word ∷ rest) m
+version_case word rest m is h =
+    let v = some_of_map (λ (v : ℕ × ℕ). Version v.0 v.1) (version_of rest) m h in
+    let parts = version_parts rest v.0 v.1 in
+    subst (MasterFieldsSpell (word ∷ rest)) v.2
+    (parts.0, parts.1, parts.2, ap (λ w. w ∷ rest) is ∙ ap (λ l. codes "VERSION" ∷ l) parts.3, parts.4, parts.5)
+
+request_with_case : (word a b c cookie : Bytes) (rest : List Bytes) (m : MasterMsg) (id pid client : Option ℕ) → word ≡ codes "REQUEST"
+    → number a ≡ id → number b ≡ pid → number c ≡ client → request_with cookie id pid client ≡ Some m → MasterFieldsSpell (word ∷ a ∷ b ∷ c ∷ cookie ∷ rest) m
+request_with_case word a b c cookie rest m (Some id) (Some pid) (Some client) is one two three h =
+    subst (MasterFieldsSpell (word ∷ a ∷ b ∷ c ∷ cookie ∷ rest)) (same_Some _ m h)
+    (a, b, c, rest, ap (λ w. w ∷ a ∷ b ∷ c ∷ cookie ∷ rest) is, one, two, three)
+request_with_case word a b c cookie rest m None pid client is one two three h = cc
+request_with_case word a b c cookie rest m (Some id) None client is one two three h = cc
+request_with_case word a b c cookie rest m (Some id) (Some pid) None is one two three h = cc
+
+request_case : (word : Bytes) (rest : List Bytes) (m : MasterMsg) → word ≡ codes "REQUEST" → request_of rest ≡ Some m → MasterFieldsSpell (word ∷ rest) m
+request_case word [] m is h = cc
+request_case word (a ∷ []) m is h = cc
+request_case word (a ∷ b ∷ []) m is h = cc
+request_case word (a ∷ b ∷ c ∷ []) m is h = cc
+request_case word (a ∷ b ∷ c ∷ cookie ∷ rest) m is h = request_with_case word a b c cookie rest m (number a) (number b) (number c) is refl refl refl h
+
+message_parts : (fields : List Bytes) (m : MasterMsg) → master_message_of fields ≡ Some m → MasterFieldsSpell fields m
+message_parts [] m h = cc
+message_parts (word ∷ rest) m h =
+    elim (cases_Bool (bytes_eq word (codes "VERSION"))) [
+      | inl e ↦ version_case word rest m (word_is word _ e) (rw e at h)
+      | inr no_version ↦
+          elim (cases_Bool (bytes_eq word (codes "REQUEST"))) [
+            | inl e ↦ request_case word rest m (word_is word _ e) (rw (no_version, e) at h)
+            | inr no_request ↦
+                subst (MasterFieldsSpell (word ∷ rest)) (same_Some Other m (rw (no_version, no_request) at h)) (word, rest, refl, no_version, no_request)
+          ]
+    ]
+
+message_from : (fields : List Bytes) (m : MasterMsg) → MasterFieldsSpell fields m → master_message_of fields ≡ Some m
+message_from fields (Version major minor) s =
+    ap master_message_of s.3 ∙ ap (option_map (λ v. Version v.0 v.1)) (version_from s.0 s.1 s.2 major minor s.4 s.5)
+message_from fields (Request id pid client cookie) s = ap master_message_of s.4 ∙ rw (s.5, s.6, s.7)
+message_from fields Other s = ap master_message_of s.2 ∙ rw (s.3, s.4)
+
+pub master_message-spells : (line : Bytes) (m : MasterMsg) → master_message line ≡ Some m → SpellsMaster line m
+unfolding master_message
+master_message-spells line m h =
+    elim (cases_Bool (fits_a_line line)) [
+      | inl e ↦ let fits = fits_parts line e in record { short = fits.0; no_end = fits.1; fields = message_parts (line_fields line) m (rw e at h) }
+      | inr e ↦ let never : ◌≡◌ {A = Option MasterMsg} None (Some m) = rw e at h in cc
+    ]
+
+pub master_message_from : (line : Bytes) (m : MasterMsg) → SpellsMaster line m → master_message line ≡ Some m
+unfolding master_message
+master_message_from line m s = rw (fits_from line s.short s.no_end) (message_from (line_fields line) m s.fields)
+
+pub one_master_message : (line : Bytes) (m n : MasterMsg) → SpellsMaster line m → SpellsMaster line n → m ≡ n
+one_master_message line m n s t = same_Some m n (sym (master_message_from line m s) ∙ master_message_from line n t)
