@@ -1,0 +1,4 @@
+pub mod EventLemmas
+pub mod Running
+pub mod Complete
+pub mod DriveLemmas

