@@ -23,3 +23,7 @@ fails_next calls = list_any (λ number. number == one_more calls.made) calls.fai
 -- one more call was made, and it failed or not
 abbrev pub called : Counts → Bool → Counts
 called calls failed = record { made = one_more calls.made; fail = calls.fail; faults = if failed then one_more calls.faults else calls.faults }
+
+-- a fault came
+abbrev pub faulted : Counts → Counts
+faulted calls = record { made = calls.made; fail = calls.fail; faults = one_more calls.faults }

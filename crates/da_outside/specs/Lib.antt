@@ -3,7 +3,10 @@ pub mod Causes
 pub mod Clock
 pub mod Files
 pub mod Got
+pub mod Link
 pub mod Past
 pub mod Rand
+pub mod Rest
+pub mod Runner
 pub mod Sink
 pub mod Source

@@ -17,3 +17,14 @@ Gains (Some before) (Some now) items = now ≡ before ++ items
 abbrev pub Recalls : {A : Type 0} → Option (List A) → Option (List A) → Option A → Type 0
 Recalls before now None = Stays before now
 Recalls before now (Some item) = Gains before now (item ∷ [])
+
+-- the first of the items to come is taken
+abbrev pub TakesFirst : {A : Type 0} → Option (List A) → Option (List A) → A → Type 0
+TakesFirst None now item = ⊤
+TakesFirst (Some before) None item = ⊥
+TakesFirst (Some before) (Some now) item = before ≡ item ∷ now
+
+-- a call takes the first of the items to come, or none
+abbrev pub Takes : {A : Type 0} → Option (List A) → Option (List A) → Option A → Type 0
+Takes before now None = Stays before now
+Takes before now (Some item) = TakesFirst before now item

@@ -1,4 +1,4 @@
-ghost use Rattle.std.specs.Prelude.{◌≡◌};
+ghost use Rattle.std.specs.Prelude.{◌≡◌, ◌≤◌, length, take};
 
 use std::marker::Model;
 
@@ -29,5 +29,14 @@ impl Bytes {
         ensures { result.now ≡ self.now }
     {
         &self.bytes
+    }
+
+    /// The first `count` of the bytes, or all of them where they are fewer.
+    pub(crate) fn cut(mut self, count: usize) -> Bytes
+        ensures bytes { result ≡ take count self }
+        ensures short { length result ≤ count }
+    {
+        self.bytes.truncate(count);
+        self
     }
 }

@@ -1,6 +1,6 @@
 ghost use Rattle.std.specs.Prelude.{◌≡◌, ◌≤◌};
 ghost use Rattle.std.specs.Bool.{OnTrue};
-ghost use Rattle.da_outside.specs.Calls.{called, fails_next, no_calls};
+ghost use Rattle.da_outside.specs.Calls.{called, fails_next, faulted, no_calls};
 ghost use Rattle.da_outside.specs.Causes.{Rose};
 
 use std::marker::Model;
@@ -48,7 +48,23 @@ impl Calls {
     {
         self.made = self.made.saturating_add(1);
         if failed {
-            self.faults = self.faults.saturating_add(1);
+            self.fault();
         }
+    }
+
+    /// Counts a fault that came with no call that can fail.
+    pub(crate) fn fault(&mut self)
+        ensures calls { self.new ≡ faulted self.old }
+        ensures later { self.old.faults ≤ self.new.faults }
+        ensures rose { Rose self.old.faults self.new.faults }
+    {
+        self.faults = self.faults.saturating_add(1);
+    }
+
+    /// How many failed.
+    pub(crate) fn faults(&self) -> u64
+        ensures { result ≡ self.now.faults }
+    {
+        self.faults
     }
 }

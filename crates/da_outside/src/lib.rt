@@ -12,9 +12,12 @@ mod calls;
 mod clock;
 mod faults;
 mod files;
+mod first;
+mod link;
 mod pause;
 mod rand;
 mod rest;
+mod runner;
 mod sink;
 mod source;
 
@@ -22,8 +25,10 @@ pub use bytes::Bytes;
 pub use clock::{Clock, SetClock};
 pub use faults::{Failed, GetFault, Got};
 pub use files::{FileRead, Files, MemFiles, SoundFiles};
+pub use link::{Link, MemLink, SoundLink, Spoken};
 pub use pause::{NoPause, Pause};
 pub use rand::{Rand, SetRand};
+pub use runner::{Exit, MemRunner, Run, Runner, SoundRunner};
 pub use sink::{MemSink, Sink, SoundSink};
 pub use source::{MemSource, SoundSource, Source};
 

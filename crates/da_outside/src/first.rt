@@ -1,0 +1,12 @@
+ghost use Rattle.std.specs.Prelude.{◌≡◌, [], ◌∷◌, MatchOption};
+
+/// Takes the first item, where there is one.
+pub(crate) fn take_first<T>(items: &mut Vec<T>) -> Option<T>
+    ensures { MatchOption result ((items.old.items ≡ []) × (items.new.items ≡ []))
+        (λ first. items.old.items ≡ first ∷ items.new.items) }
+{
+    if items.is_empty() {
+        return None;
+    }
+    Some(items.remove(0))
+}

@@ -1,0 +1,201 @@
+ghost use Rattle.std.specs.Prelude.{◌≡◌, ◌++◌, ◌∷◌, [], List, ℕ, Option, None, Some, Ok, Err, IfSome, IsTrue, IsErr, IsErrOf, MatchOption, MatchResult, is_err, false};
+ghost use Rattle.std.specs.Io.{IsEmptyOrEndsWith};
+ghost use Rattle.std.specs.Io.KnownBytes.{Keeps};
+ghost use Rattle.da_outside.specs.declared.link.Spoken.{Spoken};
+ghost use Rattle.da_outside.specs.Calls.{called, fails_next, no_calls};
+ghost use Rattle.da_outside.specs.Causes.{HasCause, HasGetCause};
+ghost use Rattle.da_outside.specs.Got.{got_of, is_fault};
+ghost use Rattle.da_outside.specs.Link.{Receives, SendRecalls, SoundReceives, received};
+ghost use Rattle.da_outside.specs.Past.{Recalls};
+ghost use Rattle.da_outside.specs.Rest.{IsCutLine};
+
+use crate::calls::Calls;
+use crate::faults::keep;
+use crate::rest::{Ahead, Rest};
+use crate::{Bytes, Failed, GetFault, Got};
+use std::alloc::{AllocError, Global};
+use std::marker::Model;
+
+/// What was said over a link.
+#[derive(Debug, Drop)]
+pub enum Spoken {
+    /// A line was sent.
+    Sent(Bytes),
+    /// A send failed.
+    SendFault,
+    /// A receive, and what it gave.
+    Received(Got),
+}
+
+/// Lines to and from one peer, as a worker.
+pub trait Link {
+    /// The bytes that will come in, where it tells them.
+    ghost left: { Self → Option (List ℕ) };
+
+    /// Its sends and receives in order, where it tells them, without those that wanted memory.
+    ghost talk: { Self → Option (List Spoken) };
+
+    /// How often it failed.
+    ghost faults: { Self → ℕ };
+
+    /// Sends a line, which is given without its LF.
+    fn send(&mut self, line: &[u8]) -> Result<(), Failed>
+        ensures left { Keeps (left self.old) (left self.new) }
+        ensures talk { SendRecalls (talk self.old) (talk self.new) line.now result }
+        ensures cause { HasCause (faults self.old) (faults self.new) result };
+
+    /// The next line, without its LF. It is `Long` exactly where 8193 bytes come without LF. The end of what comes in,
+    /// also within a line, is `Failed`.
+    fn receive(&mut self, alloc: Global) -> Result<Vec<u8>, GetFault>
+        ensures gives { Receives (left self.old) (left self.new) result }
+        ensures talk { Recalls (talk self.old) (talk self.new) (received result) }
+        ensures cause { HasGetCause (faults self.old) (faults self.new) result };
+}
+
+/// A link to which these bytes come in, some calls of which fail. It keeps its talk.
+#[derive(Debug, Drop)]
+pub struct MemLink {
+    rest: Rest,
+    talk: Vec<Spoken>,
+    calls: Calls,
+}
+
+impl Model for MemLink {
+    ghost use Rattle.da_outside.specs.Link.{LinkState};
+
+    ghost Value = { LinkState };
+
+    ghost view = { λ link. record { bytes = link.rest; talk = link.talk.items; calls = link.calls } };
+}
+
+impl MemLink {
+    /// A link to which these bytes come in. `fail` holds the numbers of the calls that fail, counted from 1.
+    pub fn new(alloc: Global, bytes: Vec<u8>, fail: Vec<u64>) -> MemLink
+        ensures { result ≡ record { bytes = bytes.items; talk = []; calls = no_calls fail.items } }
+    {
+        MemLink {
+            rest: Rest::new(bytes),
+            talk: Vec::new(alloc),
+            calls: Calls::new(fail),
+        }
+    }
+
+    /// The sends and receives, in order.
+    pub fn talk(&self) -> &[Spoken]
+        ensures { result.now ≡ self.now.talk }
+    {
+        &self.talk
+    }
+
+    /// Keeps a line that is sent.
+    fn keep_sent(&mut self, line: &[u8]) -> Result<(), AllocError>
+        ensures { MatchResult result
+            (λ _. self.new ≡ record self.old { talk = self.old.talk ++ Spoken.Sent line.now ∷ [] })
+            (λ _. self.new ≡ self.old) }
+    {
+        let line = line.to_vec(*self.talk.allocator())?;
+        self.talk.push(Spoken::Sent(Bytes::new(line)))?;
+        Ok(())
+    }
+}
+
+impl Link for MemLink {
+    ghost left = { λ link. Some link.bytes };
+
+    ghost talk = { λ link. Some link.talk };
+
+    ghost faults = { λ link. link.calls.faults };
+
+    /// It fails where `fail` holds the call's number, and where memory is wanted.
+    fn send(&mut self, line: &[u8]) -> Result<(), Failed>
+        ensures left { Keeps (Some self.old.bytes) (Some self.new.bytes) }
+        ensures talk { SendRecalls (Some self.old.talk) (Some self.new.talk) line.now result }
+        ensures cause { HasCause self.old.calls.faults self.new.calls.faults result }
+        ensures fails { IsTrue (fails_next self.old.calls) → IsErr result }
+        ensures calls { self.new.calls ≡ called self.old.calls (is_err result) }
+    {
+        if self.calls.fails_next() {
+            let _ = self.talk.push(Spoken::SendFault);
+            self.calls.count(true);
+            return Err(Failed);
+        }
+        let kept = self.keep_sent(line);
+        self.calls.count(kept.is_err());
+        kept.map_err(|_| Failed)
+    }
+
+    /// It fails exactly where `fail` holds the call's number, or no line comes. A call that wants memory changes
+    /// nothing, and has no number.
+    fn receive(&mut self, alloc: Global) -> Result<Vec<u8>, GetFault>
+        ensures gives { Receives (Some self.old.bytes) (Some self.new.bytes) result }
+        ensures talk { Recalls (Some self.old.talk) (Some self.new.talk) (received result) }
+        ensures cause { HasGetCause self.old.calls.faults self.new.calls.faults result }
+        ensures listed { IsTrue (fails_next self.old.calls) → IfSome (got_of result) (λ got. got ≡ Got.Fault) }
+        ensures end { fails_next self.old.calls ≡ false → IsErrOf result GetFault.Failed → IsCutLine self.old.bytes }
+        ensures calls { MatchOption (got_of result) (self.new ≡ self.old)
+            (λ got. self.new.calls ≡ called self.old.calls (is_fault got)) }
+    {
+        let ahead = self.rest.ahead(self.calls.fails_next());
+        let answer = self.rest.line(alloc, ahead);
+        let got = keep(alloc, &answer)?;
+        let failed = got.is_fault();
+        self.talk.push(Spoken::Received(got))?;
+        self.rest.pass(ahead);
+        self.calls.count(failed);
+        answer
+    }
+}
+
+/// A link to which these whole lines come in, and which never fails. After them empty lines come in.
+#[derive(Debug, Drop)]
+pub struct SoundLink {
+    rest: Rest,
+}
+
+impl Model for SoundLink {
+    ghost use Rattle.std.specs.Prelude.{List, ℕ};
+    ghost use Rattle.std.specs.Io.{IsEmptyOrEndsWith};
+
+    ghost Value = { List ℕ };
+
+    ghost view = { λ link. link.rest };
+
+    ghost invariant = { λ link. IsEmptyOrEndsWith link.rest 10 };
+}
+
+impl SoundLink {
+    /// A link to which these whole lines come in, each with its LF.
+    pub fn new(bytes: Vec<u8>) -> SoundLink
+        requires { IsEmptyOrEndsWith bytes.items 10 }
+        ensures { result ≡ bytes.items }
+    {
+        SoundLink {
+            rest: Rest::new(bytes),
+        }
+    }
+}
+
+impl Link for SoundLink {
+    ghost left = { λ _. None };
+
+    ghost talk = { λ _. None };
+
+    ghost faults = { λ _. 0 };
+
+    fn send(&mut self, _line: &[u8]) -> Result<(), Failed>
+        ensures sent { result ≡ Ok tt }
+        ensures left { self.new ≡ self.old }
+    {
+        Ok(())
+    }
+
+    fn receive(&mut self, alloc: Global) -> Result<Vec<u8>, GetFault>
+        ensures cause { HasGetCause 0 0 result }
+        ensures gives { SoundReceives self.old self.new result }
+    {
+        match self.rest.ahead(false) {
+            Ahead::End => Ok(Vec::new(alloc)),
+            ahead => self.rest.take_line(alloc, ahead),
+        }
+    }
+}
