@@ -1,17 +1,16 @@
 -- What a receive takes from the bytes of a link in memory.
-use Rattle.std.proofs.Common.{◌≡◌, ℕ, ◌+◌, ◌-◌, ◌<◌, ◌≤◌, min, List, [], ◌∷◌, ◌++◌, length, take, drop, refl, sym, ◌∙◌, ap, subst, arith, length-take, length-drop, get_or, Some, None, Ok, Err, IfSome}
-use Rattle.std.proofs.lemmas.List.{get_or-drop, take_all, take-append-drop}
-use Rattle.std.specs.Prelude.{Result, Vec, Option, All}
-use Rattle.std.specs.Io.{IsEmptyOrEndsWith}
+use Rattle.std.proofs.Common.{◌≡◌, ℕ, ◌+◌, ◌-◌, ◌<◌, ◌≤◌, min, List, [], ◌∷◌, ◌++◌, length, take, drop, refl, sym, subst, arith, length-take, length-drop, Some, Ok, Err, IfSome}
+use Rattle.std.proofs.lemmas.List.{take_all, take-append-drop}
+use Rattle.std.specs.Prelude.{Result, Vec}
 use Rattle.std.specs.declared.alloc.Global.{Global}
 use Rattle.da_outside.specs.declared.faults.GetFault.{GetFault}
 use Rattle.da_outside.specs.declared.faults.GetFault.TheVariants.{Failed, Long as TooMany, NoMemory}
 use Rattle.da_outside.specs.declared.faults.Got.{Got}
-use Rattle.da_outside.specs.declared.faults.Got.TheVariants.{Given, TooLong, Fault}
+use Rattle.da_outside.specs.declared.faults.Got.TheVariants.{Given}
 use Rattle.da_outside.specs.declared.rest.Ahead.{Ahead}
 use Rattle.da_outside.specs.declared.rest.Ahead.TheVariants.{Line, Long, End}
 use Rattle.da_outside.specs.Got.{got_of}
-use Rattle.da_outside.specs.Link.{IsLine, Receives, SoundLine, SoundReceives, TooLongTaken}
+use Rattle.da_outside.specs.Link.{IsLine, Receives, TooLongTaken}
 use Rattle.da_outside.specs.Rest.{BeginsWithLine, IsCutLine, LacksEnd, Shows, got_ahead, taken_ahead}
 
 -- a loop over the first m bytes found no LF

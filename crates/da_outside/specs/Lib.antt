@@ -3,10 +3,13 @@ pub mod Causes
 pub mod Clock
 pub mod Files
 pub mod Got
+pub mod Kept
 pub mod Link
+pub mod Listen
 pub mod Past
 pub mod Rand
 pub mod Rest
 pub mod Runner
 pub mod Sink
 pub mod Source
+pub mod Spawner

@@ -1,15 +1,17 @@
 -- What a link says, and what a receive takes from its bytes.
-use Rattle.std.specs.Prelude.{ℕ, ◌≤◌, ◌≡◌, Bool, false, true, List, [], ◌∷◌, ◌++◌, length, Option, None, Some, Result, Ok, Err, Vec, option_map, if◌then◌else◌}
+use Rattle.std.specs.Prelude.{ℕ, ◌≤◌, ◌≡◌, Bool, false, List, [], ◌∷◌, ◌++◌, length, Option, None, Some, Result, Ok, Err, Vec, option_map, IfSome, IsErr, IsErrOf, IsTrue, MatchOption, is_err, if◌then◌else◌}
 use Rattle.std.specs.Io.KnownBytes.{Consumes, Keeps}
 use Rattle.std.specs.declared.alloc.Global.{Global}
 use Rattle.da_outside.specs.declared.faults.GetFault.{GetFault}
 use Rattle.da_outside.specs.declared.faults.GetFault.TheVariants.{Failed, Long, NoMemory}
 use Rattle.da_outside.specs.declared.link.Spoken.{Spoken}
 use Rattle.da_outside.specs.declared.link.Spoken.TheVariants.{Received, SendFault, Sent}
-use Rattle.da_outside.specs.Calls.{Counts}
-use Rattle.da_outside.specs.Past.{Gains, Recalls, Stays}
-use Rattle.da_outside.specs.Got.{got_of}
-use Rattle.da_outside.specs.Rest.{LacksEnd}
+use Rattle.da_outside.specs.declared.faults.Got.TheVariants.{Fault}
+use Rattle.da_outside.specs.Calls.{Counts, called, fails_next}
+use Rattle.da_outside.specs.Causes.{HasCause, HasGetCause}
+use Rattle.da_outside.specs.Past.{Gains, Recalls}
+use Rattle.da_outside.specs.Got.{got_of, is_fault}
+use Rattle.da_outside.specs.Rest.{IsCutLine, LacksEnd}
 
 -- what may stand before an LF
 pub record IsLine (line : List ℕ) : Type 0 where
@@ -58,3 +60,20 @@ SoundReceives before now (Ok line) = SoundLine before now line
 SoundReceives before now (Err Long) = TooLongTaken (Some before) (Some now)
 SoundReceives before now (Err Failed) = ⊥
 SoundReceives before now (Err NoMemory) = now ≡ before
+
+-- A send of a link in memory. It fails where its number is one of those that fail, and where memory is wanted.
+pub record MemSends {T E : Type 0} (before now : LinkState) (line : List ℕ) (result : Result T E) : Type 0 where
+  pub bytes : now.bytes ≡ before.bytes
+  pub talk : SendRecalls (Some before.talk) (Some now.talk) line result
+  pub cause : HasCause before.calls.faults now.calls.faults result
+  pub listed : IsTrue (fails_next before.calls) → IsErr result
+  pub calls : now.calls ≡ called before.calls (is_err result)
+
+-- A receive of a link in memory. It fails exactly where its number is one of those that fail, or no line comes.
+pub record MemReceives (before now : LinkState) (result : Result (Vec ℕ Global) GetFault) : Type 0 where
+  pub bytes : Receives (Some before.bytes) (Some now.bytes) result
+  pub talk : Recalls (Some before.talk) (Some now.talk) (received result)
+  pub cause : HasGetCause before.calls.faults now.calls.faults result
+  pub listed : IsTrue (fails_next before.calls) → IfSome (got_of result) (λ got. got ≡ Fault)
+  pub failed : fails_next before.calls ≡ false → IsErrOf result Failed → IsCutLine before.bytes
+  pub calls : MatchOption (got_of result) (now ≡ before) (λ got. now.calls ≡ called before.calls (is_fault got))

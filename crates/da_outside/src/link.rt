@@ -5,7 +5,7 @@ ghost use Rattle.da_outside.specs.declared.link.Spoken.{Spoken};
 ghost use Rattle.da_outside.specs.Calls.{called, fails_next, no_calls};
 ghost use Rattle.da_outside.specs.Causes.{HasCause, HasGetCause};
 ghost use Rattle.da_outside.specs.Got.{got_of, is_fault};
-ghost use Rattle.da_outside.specs.Link.{Receives, SendRecalls, SoundReceives, received};
+ghost use Rattle.da_outside.specs.Link.{MemReceives, MemSends, Receives, SendRecalls, SoundReceives, received};
 ghost use Rattle.da_outside.specs.Past.{Recalls};
 ghost use Rattle.da_outside.specs.Rest.{IsCutLine};
 
@@ -87,6 +87,15 @@ impl MemLink {
         &self.talk
     }
 
+    /// Its talk, and how often it failed.
+    pub(crate) fn end(self) -> (Vec<Spoken>, u64)
+        ensures talk { result.0.items ≡ self.talk }
+        ensures faults { result.1 ≡ self.calls.faults }
+    {
+        let faults = self.calls.faults();
+        (self.talk, faults)
+    }
+
     /// Keeps a line that is sent.
     fn keep_sent(&mut self, line: &[u8]) -> Result<(), AllocError>
         ensures { MatchResult result
@@ -108,11 +117,7 @@ impl Link for MemLink {
 
     /// It fails where `fail` holds the call's number, and where memory is wanted.
     fn send(&mut self, line: &[u8]) -> Result<(), Failed>
-        ensures left { Keeps (Some self.old.bytes) (Some self.new.bytes) }
-        ensures talk { SendRecalls (Some self.old.talk) (Some self.new.talk) line.now result }
-        ensures cause { HasCause self.old.calls.faults self.new.calls.faults result }
-        ensures fails { IsTrue (fails_next self.old.calls) → IsErr result }
-        ensures calls { self.new.calls ≡ called self.old.calls (is_err result) }
+        ensures { MemSends self.old self.new line.now result }
     {
         if self.calls.fails_next() {
             let _ = self.talk.push(Spoken::SendFault);
@@ -127,13 +132,7 @@ impl Link for MemLink {
     /// It fails exactly where `fail` holds the call's number, or no line comes. A call that wants memory changes
     /// nothing, and has no number.
     fn receive(&mut self, alloc: Global) -> Result<Vec<u8>, GetFault>
-        ensures gives { Receives (Some self.old.bytes) (Some self.new.bytes) result }
-        ensures talk { Recalls (Some self.old.talk) (Some self.new.talk) (received result) }
-        ensures cause { HasGetCause self.old.calls.faults self.new.calls.faults result }
-        ensures listed { IsTrue (fails_next self.old.calls) → IfSome (got_of result) (λ got. got ≡ Got.Fault) }
-        ensures end { fails_next self.old.calls ≡ false → IsErrOf result GetFault.Failed → IsCutLine self.old.bytes }
-        ensures calls { MatchOption (got_of result) (self.new ≡ self.old)
-            (λ got. self.new.calls ≡ called self.old.calls (is_fault got)) }
+        ensures { MemReceives self.old self.new result }
     {
         let ahead = self.rest.ahead(self.calls.fails_next());
         let answer = self.rest.line(alloc, ahead);
