@@ -1,3 +1,4 @@
 mod Digits
 mod Reading
 mod Runs
+mod SpellingLemmas

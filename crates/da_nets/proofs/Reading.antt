@@ -158,7 +158,7 @@ with_run-many front back many = rw (lt-leb (length front + length back) 7 many) 
 joined-many : (front back : Parts) → 7 < front.count + back.count → some_v6 (joined front back) ≡ None
 joined-many front back many = rw (lt-leb (front.count + back.count) 7 many) refl
 
-with_run-few : (front back : List ℕ) → length front + length back ≤ 7 → with_run front back ≡ Some (V6 (number_in 65536 front 0 * 65536 ^ (8 - length front) + number_in 65536 back 0))
+pub with_run-few : (front back : List ℕ) → length front + length back ≤ 7 → with_run front back ≡ Some (V6 (number_in 65536 front 0 * 65536 ^ (8 - length front) + number_in 65536 back 0))
 with_run-few front back few =
     rw (le-leb (length front + length back) 7 few, eq-eqb _ 8 (length-joined front back few)) (ap (λ n. Some (V6 n)) (number_in-joined front back few))
 

@@ -9,7 +9,7 @@ use Rattle.da_nets.specs.Addresses.{around_run, put_first}
 abbrev pub behind : Bytes → Bytes × Bytes → Bytes × Bytes
 behind front parts = (front ++ parts.0, parts.1)
 
-behind-nil : (parts : Option (Bytes × Bytes)) → option_map (behind []) parts ≡ parts
+pub behind-nil : (parts : Option (Bytes × Bytes)) → option_map (behind []) parts ≡ parts
 behind-nil None = refl
 behind-nil (Some parts) = refl
 

@@ -1,3 +1,4 @@
 pub mod Addresses
 pub mod Forms
 pub mod Networks
+pub mod Spellings
