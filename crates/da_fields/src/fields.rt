@@ -89,7 +89,7 @@ impl Fields {
     }
 
     /// Sets each pair of `more`, in order. Where memory is wanted, the first of them may be set.
-    pub fn set_all(&mut self, alloc: Global, more: &Fields) -> Result<(), AllocError>
+    pub(crate) fn set_all(&mut self, alloc: Global, more: &Fields) -> Result<(), AllocError>
         ensures { OnOk result (self.new ≡ with_fields self.old more.now) }
     {
         for (key, value) in more.pairs() {
@@ -99,7 +99,7 @@ impl Fields {
     }
 
     /// Puts each pair of `more` last whose key isn't there yet. Where memory is wanted, the first of them may be there.
-    pub fn set_defaults(&mut self, alloc: Global, more: &Fields) -> Result<(), AllocError>
+    pub(crate) fn set_defaults(&mut self, alloc: Global, more: &Fields) -> Result<(), AllocError>
         ensures { OnOk result (self.new ≡ with_defaults self.old more.now) }
     {
         for (key, value) in more.pairs() {
