@@ -9,7 +9,7 @@ ghost use Rattle.da_msgs.specs.Replies.{greeting, version_line, server_line, mec
 use crate::kinds::{ConnKind, Mech};
 use crate::printing::begin_reply;
 use da_fields::Text;
-use da_tabline::{begin_line, push_field};
+use da_tabline::{escape, push_field};
 use std::alloc::{AllocError, Global};
 
 /// The lines that open a connection of this kind and number, each without its LF: to a client the version, the
@@ -50,7 +50,7 @@ fn client_lines(
     lines.push(number_line(alloc, b"SPID", pid)?)?;
     lines.push(number_line(alloc, b"CUID", number)?)?;
     lines.push(cookie_line(alloc, cookie)?)?;
-    lines.push(Text::new(begin_line(alloc, b"DONE")?))?;
+    lines.push(Text::new(escape(alloc, b"DONE")?))?;
     Ok(lines)
 }
 
@@ -66,7 +66,7 @@ fn master_lines(alloc: Global, pid: u32) -> Result<Vec<Text>, AllocError>
 fn first_line(alloc: Global) -> Result<Text, AllocError>
     ensures { IfOk result (λ line. line ≡ version_line) }
 {
-    let mut line = begin_line(alloc, b"VERSION")?;
+    let mut line = escape(alloc, b"VERSION")?;
     push_field(&mut line, b"1")?;
     push_field(&mut line, b"1")?;
     Ok(Text::new(line))
@@ -81,7 +81,7 @@ fn number_line(alloc: Global, word: &[u8], number: u32) -> Result<Text, AllocErr
 fn line_of(alloc: Global, mech: Mech) -> Result<Text, AllocError>
     ensures { IfOk result (λ line. line ≡ mechanism_line mech) }
 {
-    let mut line = begin_line(alloc, b"MECH")?;
+    let mut line = escape(alloc, b"MECH")?;
     push_field(&mut line, name_of(mech))?;
     push_flags(&mut line, mech)?;
     Ok(Text::new(line))
@@ -114,7 +114,7 @@ fn push_flags(line: &mut Vec<u8>, mech: Mech) -> Result<(), AllocError>
 fn cookie_line(alloc: Global, cookie: &[u8; 16]) -> Result<Text, AllocError>
     ensures { IfOk result (λ line. line ≡ spelled (codes "COOKIE" ∷ hex cookie.now ∷ [])) }
 {
-    let mut line = begin_line(alloc, b"COOKIE")?;
+    let mut line = escape(alloc, b"COOKIE")?;
     push_field(&mut line, &hex_text(alloc, cookie)?)?;
     Ok(Text::new(line))
 }

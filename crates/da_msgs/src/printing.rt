@@ -10,7 +10,7 @@ ghost use Rattle.da_msgs.specs.Replies.{reply_line, master_reply_line};
 use crate::client::Reply;
 use crate::master::MasterReply;
 use da_fields::{Fields, Text, visible};
-use da_tabline::{begin_line, push_field};
+use da_tabline::{escape, push_field};
 use std::alloc::{AllocError, Global};
 
 impl Reply {
@@ -84,7 +84,7 @@ impl MasterReply {
 pub(crate) fn begin_reply(alloc: Global, word: &[u8], number: u32) -> Result<Vec<u8>, AllocError>
     ensures { IfOk result (λ line. line.items ≡ spelled (word.now ∷ decimal number ∷ [])) }
 {
-    let mut line = begin_line(alloc, word)?;
+    let mut line = escape(alloc, word)?;
     let digits = number.to_string(alloc)?;
     push_field(&mut line, digits.as_bytes())?;
     Ok(line)

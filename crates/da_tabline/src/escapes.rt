@@ -19,8 +19,8 @@ pub fn escape(alloc: Global, text: &[u8]) -> Result<Vec<u8>, AllocError>
     Ok(field)
 }
 
-/// Puts the text, as it stands in a field, at the end of a line. Where memory is wanted, the line may end in a part of it.
-pub fn push_escaped(line: &mut Vec<u8>, text: &[u8]) -> Result<(), AllocError>
+// Puts the text, as it stands in a field, at the end of a line.
+pub(crate) fn push_escaped(line: &mut Vec<u8>, text: &[u8]) -> Result<(), AllocError>
     ensures { OnOk result (line.new.items ≡ line.old.items ++ escape text.now) }
 {
     for byte in text {

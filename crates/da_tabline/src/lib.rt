@@ -11,14 +11,14 @@ mod pieces;
 mod spelling;
 
 pub use cutter::{LineFault, Lines};
-pub use escapes::{escape, push_escaped, unescape, unescaped_fields, what_is_escaped_is_read};
+pub use escapes::{escape, unescape, unescaped_fields, what_is_escaped_is_read};
 pub use laws::{
     a_cutter_goes_on, a_text_has_one_cut, any_cuts_give_the_same_lines, the_cut_is_of_whole_lines,
 };
 pub use numbers::{decimal_number, decimal_u32, number_is_decimal, printed_number_is_read};
 pub use parts::{key_and_value, split_at_byte, strip_front};
 pub use pieces::fields;
-pub use spelling::{a_line_goes_on, begin_line, push_field};
+pub use spelling::{a_line_goes_on, a_written_line_is_read, push_field};
 
 #[cfg(test)]
 mod tests;

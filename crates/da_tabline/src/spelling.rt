@@ -1,22 +1,14 @@
 // Lines of fields, written one field after another.
 
-ghost use Rattle.std.specs.Prelude.{◌≡◌, ◌++◌, ◌∷◌, [], ℕ, List, IfOk, OnOk};
-ghost use Rattle.da_tabline.specs.Escapes.{spelled};
+ghost use Rattle.std.specs.Prelude.{◌≡◌, ◌++◌, ◌∷◌, [], ℕ, List, OnOk};
+ghost use Rattle.da_tabline.specs.Escapes.{line_fields, spelled};
+ghost use Rattle.da_tabline.specs.Parts.{Lacks};
 ghost use Rattle.da_tabline.specs.Spelling.{more_fields};
 
 use crate::escapes::push_escaped;
-use std::alloc::{AllocError, Global};
+use std::alloc::AllocError;
 
-/// A line of one field.
-pub fn begin_line(alloc: Global, field: &[u8]) -> Result<Vec<u8>, AllocError>
-    ensures { IfOk result (λ line. line.items ≡ spelled (field.now ∷ [])) }
-{
-    let mut line = Vec::new(alloc);
-    push_escaped(&mut line, field)?;
-    Ok(line)
-}
-
-/// One field more on a line. Where memory is wanted, the line may end in a part of it.
+/// One field more on a line, which begins as a field alone. Where memory is wanted, the line may end in a part of it.
 pub fn push_field(line: &mut Vec<u8>, field: &[u8]) -> Result<(), AllocError>
     ensures { OnOk result (line.new.items ≡ line.old.items ++ more_fields (field.now ∷ [])) }
 {
@@ -27,4 +19,10 @@ pub fn push_field(line: &mut Vec<u8>, field: &[u8]) -> Result<(), AllocError>
 /// A line that goes on is the line of all its fields.
 pub fn a_line_goes_on()
     ensures { (first : List ℕ) (fields more : List (List ℕ)) → spelled (first ∷ fields) ++ more_fields more ≡ spelled (first ∷ (fields ++ more)) }
+{}
+
+/// The fields of a line that was written are the fields that it was written of, and it is one line.
+pub fn a_written_line_is_read()
+    ensures fields { (first : List ℕ) (fields : List (List ℕ)) → line_fields (spelled (first ∷ fields)) ≡ first ∷ fields }
+    ensures one_line { (fields : List (List ℕ)) → Lacks 10 (spelled fields) }
 {}
