@@ -25,3 +25,5 @@ mod read;
 mod scheme;
 mod secret;
 mod stored;
+#[cfg(test)]
+mod tests;
