@@ -1,9 +1,9 @@
 -- A made text is read as its scheme, and its password matches.
-use Rattle.std.proofs.Common.{◌≡◌, ℕ, ◌≤◌, Bool, true, false, cond, ◌&&◌, List, [], ◌∷◌, ◌++◌, Option, Some, None, length, take, drop, eqb, refl, sym, ap, ◌∙◌, arith, codes, length-append}
+use Rattle.std.proofs.Common.{◌≡◌, ℕ, ◌≤◌, true, ◌&&◌, [], ◌∷◌, ◌++◌, Option, Some, None, length, take, refl, ap, ◌∙◌, arith, codes, length-append}
 use Rattle.std.specs.Prelude.{bytes_eq, nat_le, option_map, option_and_then}
 use Rattle.std.specs.Result.{result_ok}
 use Rattle.std.proofs.lemmas.Bool.{eq-eqb, le-leb}
-use Rattle.std.proofs.lemmas.List.{append-nil, append_assoc, take_at, drop_at, length-take-le}
+use Rattle.std.proofs.lemmas.List.{append-nil, append_assoc, take_at, drop_at}
 use Rattle.base64.specs.GeneralPurpose.{IsBytes}
 use Rattle.hex.specs.Hex.{decode_of, encode_lower}
 use Rattle.hex.proofs.HexLemmas.{decode_of-encode_lower}
@@ -15,12 +15,12 @@ use Rattle.sha2.specs.Sha512.{sha512}
 use Rattle.sha2.proofs.Facts256.{length-sha256}
 use Rattle.sha2.proofs.Facts512.{length-sha512}
 use Rattle.da_base.specs.Words.{Bytes, pieces, to_base64, from_base64}
-use Rattle.da_tabline.specs.Parts.{Lacks, SplitsAt}
+use Rattle.da_tabline.specs.Parts.{Lacks}
 use Rattle.da_schemes.specs.Hmac.{hi, hmac_sha256}
-use Rattle.da_schemes.specs.Keys.{stored_key, server_key, keys_of, bytes_spelled, keys_in_pieces, keys_spelled}
+use Rattle.da_schemes.specs.Keys.{stored_key, keys_of, bytes_spelled, keys_in_pieces}
 use Rattle.da_schemes.specs.Made.{keys_text, text_made, made, IsMade}
 use Rattle.da_schemes.specs.Scheme.{scheme_name, kind_of, label_of}
-use Rattle.da_schemes.specs.Stored.{StoredPassword, digest_by, digest_size, secret_of_bytes, secret_written, stored_password, secret_matches, matches}
+use Rattle.da_schemes.specs.Stored.{digest_by, secret_of_bytes, secret_written, stored_password, secret_matches, matches}
 use Rattle.da_schemes.specs.declared.scheme.Kind.TheVariants.{Hashed, Salted}
 use Rattle.da_schemes.specs.declared.scheme.Label.{Label}
 use Rattle.da_schemes.specs.declared.scheme.Scheme.{Scheme}
