@@ -127,3 +127,156 @@ fn what_is_set_is_given_in_order_and_its_last_again(rt: HostRuntime) -> Result<(
     assert_eq!(rt; moment(&SetClock::new(Vec::new(rt.alloc()))), 0);
     Ok(())
 }
+
+fn say<L: Link>(link: &mut L, line: &[u8]) -> Result<(), Failed> {
+    link.send(line)
+}
+
+fn line_length<L: Link>(alloc: Global, link: &mut L) -> Result<usize, GetFault> {
+    Ok(link.receive(alloc)?.len())
+}
+
+fn mem_link(alloc: Global) -> Result<MemLink, AllocError> {
+    let mut bytes = b"one\n".to_vec(alloc)?;
+    for (byte, count) in [(b'x', 8192), (b'\n', 1), (b'y', 8193), (b'z', 3)] {
+        for _ in 0..count {
+            bytes.push(byte)?;
+        }
+    }
+    let fail = [1, 4].to_vec(alloc)?;
+    Ok(MemLink::new(alloc, bytes, fail))
+}
+
+#[test]
+fn a_link_gives_its_lines(rt: HostRuntime) -> Result<(), Fail> {
+    let mut link = mem_link(rt.alloc())?;
+    for want in [Err(Failed), Ok(())] {
+        assert_eq!(rt; say(&mut link, b"line"), want);
+    }
+    let told = [
+        Ok(3),
+        Err(GetFault::Failed),
+        Ok(8192),
+        Err(GetFault::Long),
+        Err(GetFault::Failed),
+    ];
+    for want in told {
+        assert_eq!(rt; line_length(rt.alloc(), &mut link), want);
+    }
+    assert_eq!(rt; link.talk().len(), 7);
+    Ok(())
+}
+
+#[test]
+fn a_sound_link_ends_in_empty_lines(rt: HostRuntime) -> Result<(), Fail> {
+    let mut link = SoundLink::new(b"one\n".to_vec(rt.alloc())?);
+    assert_eq!(rt; say(&mut link, b"line"), Ok(()));
+    for want in [3, 0, 0] {
+        assert_eq!(rt; line_length(rt.alloc(), &mut link), Ok(want));
+    }
+    Ok(())
+}
+
+fn exchange<P: Spawner>(alloc: Global, spawner: &mut P) -> Result<usize, GetFault> {
+    let mut link = spawner.start(alloc, &[])?;
+    let sent = say(&mut link, b"question");
+    let length = line_length(alloc, &mut link);
+    spawner.finish(link);
+    sent?;
+    length
+}
+
+fn mem_spawner(alloc: Global) -> Result<MemSpawner, AllocError> {
+    let mut links = Vec::new(alloc);
+    links.push(MemLink::new(alloc, b"answer\n".to_vec(alloc)?, Vec::new(alloc)))?;
+    let fail = [1].to_vec(alloc)?;
+    Ok(MemSpawner::new(alloc, links, fail))
+}
+
+#[test]
+fn a_spawner_starts_its_links_and_takes_them_back(rt: HostRuntime) -> Result<(), Fail> {
+    let mut spawner = mem_spawner(rt.alloc())?;
+    for want in [Err(GetFault::Failed), Ok(6), Err(GetFault::Failed)] {
+        assert_eq!(rt; exchange(rt.alloc(), &mut spawner), want);
+    }
+    Ok(())
+}
+
+fn reply_length<R: Runner>(alloc: Global, runner: &mut R) -> Result<usize, GetFault> {
+    let exit = runner.run(alloc, b"program", b"input")?;
+    Ok(exit.reply.bytes().len())
+}
+
+fn long_exit(alloc: Global) -> Result<Vec<Exit>, AllocError> {
+    let reply = Bytes::new(vec![in alloc; b'x'; 9000]?);
+    let mut exits = Vec::new(alloc);
+    exits.push(Exit { status: 1, reply })?;
+    Ok(exits)
+}
+
+#[test]
+fn a_runner_gives_its_exits_cut(rt: HostRuntime) -> Result<(), Fail> {
+    let fail = [1].to_vec(rt.alloc())?;
+    let mut runner = MemRunner::new(rt.alloc(), long_exit(rt.alloc())?, fail);
+    for want in [Err(GetFault::Failed), Ok(8194), Err(GetFault::Failed)] {
+        assert_eq!(rt; reply_length(rt.alloc(), &mut runner), want);
+    }
+    assert_eq!(rt; runner.past().len(), 3);
+    let mut runner = SoundRunner::new(long_exit(rt.alloc())?);
+    for want in [8194, 0] {
+        assert_eq!(rt; reply_length(rt.alloc(), &mut runner), Ok(want));
+    }
+    Ok(())
+}
+
+fn bound<L: Listen>(alloc: Global, listen: &mut L) -> Result<(), GetFault> {
+    listen.bind(alloc, b"path")
+}
+
+fn accepted<L: Listen>(alloc: Global, listen: &mut L) -> Result<(L::Source, L::Sink), GetFault> {
+    listen.accept(alloc)
+}
+
+fn mem_listen(alloc: Global) -> Result<MemListen, AllocError> {
+    let mut conns = Vec::new(alloc);
+    let source = MemSource::new(b"a".to_vec(alloc)?, Vec::new(alloc));
+    conns.push((source, MemSink::new(alloc, Vec::new(alloc))))?;
+    let fail = [1].to_vec(alloc)?;
+    Ok(MemListen::new(conns, fail))
+}
+
+#[test]
+fn a_listener_gives_its_connections(rt: HostRuntime) -> Result<(), Fail> {
+    let mut listen = mem_listen(rt.alloc())?;
+    for want in [Err(GetFault::Failed), Ok(())] {
+        assert_eq!(rt; bound(rt.alloc(), &mut listen), want);
+    }
+    let (mut source, _sink) = accepted(rt.alloc(), &mut listen)?;
+    assert_eq!(rt; read_byte(&mut source), Ok(Some(b'a')));
+    assert!(rt; accepted(rt.alloc(), &mut listen).is_err());
+    Ok(())
+}
+
+#[test]
+fn a_sound_listener_ends_in_empty_connections(rt: HostRuntime) -> Result<(), Fail> {
+    let mut conns = Vec::new(rt.alloc());
+    conns.push((SoundSource::new(b"a".to_vec(rt.alloc())?), SoundSink::new()))?;
+    let mut listen = SoundListen::new(conns);
+    assert_eq!(rt; bound(rt.alloc(), &mut listen), Ok(()));
+    for want in [Some(b'a'), None] {
+        let (mut source, _) = accepted(rt.alloc(), &mut listen)?;
+        assert_eq!(rt; read_byte(&mut source), Ok(want));
+    }
+    Ok(())
+}
+
+fn member_of<W: Crew>(crew: &mut W) -> (W::Spawner, W::Runner) {
+    crew.member()
+}
+
+#[test]
+fn a_sound_crew_answers_nothing(rt: HostRuntime) {
+    let (mut spawner, mut runner) = member_of(&mut SoundCrew::new(rt.alloc()));
+    assert_eq!(rt; exchange(rt.alloc(), &mut spawner), Ok(0));
+    assert_eq!(rt; reply_length(rt.alloc(), &mut runner), Ok(0));
+}
