@@ -1,12 +1,12 @@
 -- Lemmas on lists of fields.
-use Rattle.std.proofs.Common.{◌≡◌, ℕ, ◌+◌, ◌<◌, ◌≤◌, Bool, true, false, not, ◌&&◌, List, [], ◌∷◌, ◌++◌, length, take, drop, map, Option, Some, None, eqb, ltb, cond, refl, sym, ap, ◌∙◌, Bor, get_or, set, append-nil, subst, inl, inr, arith}
+use Rattle.std.proofs.Common.{◌≡◌, ℕ, ◌+◌, ◌<◌, ◌≤◌, Bool, true, false, ◌&&◌, [], ◌∷◌, ◌++◌, length, take, drop, Option, Some, None, eqb, cond, refl, sym, ap, ◌∙◌, Bor, get_or, set, append-nil, subst, inl, inr, arith}
 use Rattle.std.specs.Prelude.{bytes_eq, filter, codes, is_some, option_copied}
 use Rattle.std.specs.List.{starts_with}
 use Rattle.std.proofs.lemmas.Bool.{cases_Bool, eqb-true, eq-eqb, and_parts, both_ways}
 use Rattle.std.proofs.lemmas.List.{take_more, take-append-drop, drop_more, drop_all, length-take-le, get_or_at, set_at}
 use Rattle.std.proofs.lemmas.Slice.Eq.{bytes_eq-Decides}
 use Rattle.da_base.specs.Words.{Bytes, begins_with}
-use Rattle.da_fields.specs.FieldList.{Pairs, field, with_field, with_fields, with_defaults, LacksKey, IsPlaceOf, AreDistinct, is_userdb_key, visible, is_hidden, userdb_part}
+use Rattle.da_fields.specs.FieldList.{Pairs, field, with_field, LacksKey, IsPlaceOf, AreDistinct, is_userdb_key, userdb_part}
 
 same_text : (a b : Bytes) → bytes_eq a b ≡ true → a ≡ b
 same_text a b = (bytes_eq-Decides a b).0

@@ -1,5 +1,5 @@
 -- A line of a client is read as a message exactly where it spells it.
-use Rattle.std.proofs.Common.{◌≡◌, ℕ, Bool, true, false, not, ◌&&◌, List, [], ◌∷◌, ◌++◌, Option, Some, None, cond, refl, sym, ap, ◌∙◌, subst, inl, inr}
+use Rattle.std.proofs.Common.{◌≡◌, ℕ, not, ◌&&◌, List, [], ◌∷◌, Option, Some, None, refl, sym, ap, ◌∙◌, subst, inl, inr}
 use Rattle.std.specs.Prelude.{bytes_eq, codes, is_some, option_map, option_and_then}
 use Rattle.std.proofs.lemmas.Bool.{cases_Bool, and_parts, and_from, not-true}
 use Rattle.std.proofs.lemmas.Option.{same_Some, cond_some, option_and_then_some}
@@ -8,7 +8,7 @@ use Rattle.da_tabline.specs.Escapes.{line_fields}
 use Rattle.da_fields.specs.FieldList.{Pairs, field}
 use Rattle.da_msgs.specs.Lines.{fits_a_line}
 use Rattle.da_msgs.specs.ClientMessages.{client_message, client_message_of, version_of, one_number, auth_of, auth_with, cont_of, parameters_of}
-use Rattle.da_msgs.specs.ClientSpelling.{FieldsSpell, SpellsClient, IsOther, AreParameters}
+use Rattle.da_msgs.specs.ClientSpelling.{FieldsSpell, SpellsClient}
 use Rattle.da_msgs.specs.declared.client.ClientMsg.{ClientMsg}
 use Rattle.da_msgs.specs.declared.client.ClientMsg.TheVariants.{Version, Pid, Auth, Cont, Cancel, Other}
 use Rattle.da_msgs.proofs.FieldSpelling.{fits_parts, fits_from, word_is, some_of_map, version_parts, version_from, one_number_parts, parameters_parts, parameters_from}

@@ -1,14 +1,13 @@
 -- Lemmas on the fields that spell a message.
-use Rattle.std.proofs.Common.{◌≡◌, ℕ, ◌≤◌, Bool, true, false, not, ◌&&◌, List, [], ◌∷◌, ◌++◌, length, map, Option, Some, None, cond, leb, eqb, refl, sym, ap, ◌∙◌, subst, inl, inr}
-use Rattle.std.specs.Prelude.{bytes_eq, codes, is_some, option_map, option_and_then}
+use Rattle.std.proofs.Common.{◌≡◌, ℕ, ◌≤◌, true, false, not, List, [], ◌∷◌, ◌++◌, length, Option, Some, None, cond, leb, eqb, refl, ap, ◌∙◌, subst, inl, inr}
+use Rattle.std.specs.Prelude.{bytes_eq, codes, option_map}
 use Rattle.std.specs.List.{AllByRecursion, list_any}
 use Rattle.std.proofs.lemmas.Bool.{cases_Bool, and_parts, and_from, leb-true, le-leb, not-true}
 use Rattle.std.proofs.lemmas.Option.{same_Some, option_and_then_some, some_pair_parts}
 use Rattle.std.proofs.lemmas.Slice.Eq.{bytes_eq-Decides}
 use Rattle.da_base.specs.Words.{Bytes, after_front, is_empty, number, option_or_else}
-use Rattle.da_tabline.specs.Escapes.{line_fields}
-use Rattle.da_tabline.proofs.PartLemmas.{after_front_at, after_front_some}
-use Rattle.da_fields.specs.FieldList.{Pairs, field, with_field, with_fields, text_key, text_value}
+use Rattle.da_tabline.proofs.PartLemmas.{after_front_some}
+use Rattle.da_fields.specs.FieldList.{Pairs, with_field, text_key, text_value}
 use Rattle.da_msgs.specs.ClientMessages.{version_of, one_number, parameters_of}
 use Rattle.da_msgs.specs.ClientSpelling.{IsParameter, parameter_pairs, AreParameters}
 use Rattle.da_msgs.specs.Lines.{fits_a_line}

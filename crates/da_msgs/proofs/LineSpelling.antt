@@ -1,5 +1,5 @@
 -- Lemmas on lines that are written field by field.
-use Rattle.std.proofs.Common.{◌≡◌, List, [], ◌∷◌, ◌++◌, ap, ◌∙◌}
+use Rattle.std.proofs.Common.{◌≡◌, List, ◌∷◌, ◌++◌, ap, ◌∙◌}
 use Rattle.da_base.specs.Words.{Bytes}
 use Rattle.da_tabline.specs.Escapes.{spelled}
 use Rattle.da_tabline.specs.Spelling.{more_fields}

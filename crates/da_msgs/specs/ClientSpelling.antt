@@ -1,5 +1,5 @@
 -- The lines that spell each message of a client, case by case.
-use Rattle.std.specs.Prelude.{◌≡◌, ℕ, ◌≤◌, Bool, true, false, List, [], ◌∷◌, ◌++◌, length, map, Option, Some, None, bytes_eq, codes, is_some, ◌==◌}
+use Rattle.std.specs.Prelude.{◌≡◌, ◌≤◌, true, false, List, [], ◌∷◌, ◌++◌, length, map, Option, Some, None, bytes_eq, codes, is_some, ◌==◌}
 use Rattle.std.specs.List.{AllByRecursion, list_any}
 use Rattle.da_base.specs.Words.{Bytes, after_front, is_empty, number}
 use Rattle.da_tabline.specs.Escapes.{line_fields}

@@ -1,5 +1,5 @@
 -- The lines that spell each message of a master, case by case.
-use Rattle.std.specs.Prelude.{◌≡◌, ◌≤◌, false, List, [], ◌∷◌, length, Some, bytes_eq, codes, ◌==◌}
+use Rattle.std.specs.Prelude.{◌≡◌, ◌≤◌, false, List, ◌∷◌, length, Some, bytes_eq, codes, ◌==◌}
 use Rattle.std.specs.List.{list_any}
 use Rattle.da_base.specs.Words.{Bytes, number}
 use Rattle.da_tabline.specs.Escapes.{line_fields}

@@ -1,4 +1,4 @@
-use Rattle.std.proofs.Common.{arith, sym, ◌∙◌, ◌≡◌, true, false}
+use Rattle.std.proofs.Common.{arith, sym, ◌≡◌, true, false}
 use Rattle.std.specs.Prelude.{bytes_eq}
 use Rattle.da_fields.proofs.FieldLemmas.{lacks_more, place_found}
 use Rattle.da_fields.proofs.fields.place_of.Goals as goal

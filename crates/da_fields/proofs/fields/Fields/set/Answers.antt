@@ -1,4 +1,4 @@
-use Rattle.std.proofs.Common.{arith, sym, ap, ◌∙◌, ◌≡◌}
+use Rattle.std.proofs.Common.{sym, ap, ◌∙◌}
 use Rattle.da_fields.specs.FieldList.{IsPlaceOf, LacksKey, with_field}
 use Rattle.da_fields.proofs.FieldLemmas.{set_is_with_field, with_field_none, AreDistinct-with_field}
 use Rattle.da_fields.proofs.fields.Fields.set.Goals as goal
