@@ -1,0 +1,54 @@
+//! The program: it gives the words, the files and the standard streams of the system to the command that the words name,
+//! and ends with the code of the command's status, whose words stand on standard error.
+#![tactic(auto)]
+
+mod adapters;
+
+use adapters::{Disk, Input, Output};
+use da_app::{Status, run_drive};
+use std::alloc::{AllocError, Global};
+use std::env;
+use std::io::{self, Write};
+use std::os::fd::AsRawFd;
+use std::process::ExitCode;
+use std::rt::Env;
+
+/// The exit code where the program can't begin its work.
+const CANNOT_START: u8 = 70;
+
+/// The arguments after the program's name.
+fn words<R: Env + AllocGlobal>(rt: &R) -> io::Result<Vec<String>> {
+    let mut words = env::args(rt)?;
+    let _name = words.next();
+    Ok(words.collect(rt.alloc())?)
+}
+
+fn complain<W: Write>(to: &mut W, words: &[u8]) -> io::Result<()> {
+    to.write_all(b"dauth: ")?;
+    to.write_all(words)?;
+    to.write_all(b"\n")
+}
+
+/// Tells the words of a status, if it has any. Where no memory is left for them, that is told.
+fn tell<W: Write>(alloc: Global, to: &mut W, status: &Status) {
+    let told = match status.words(alloc) {
+        Ok(words) if words.is_empty() => Ok(()),
+        Ok(words) => complain(to, &words),
+        Err(AllocError) => complain(to, b"no memory"),
+    };
+    let _ = told;
+}
+
+fn main(rt: HostRuntime) -> ExitCode {
+    let Ok(words) = words(&rt) else {
+        let _ = complain(&mut rt.stderr(), b"cannot start");
+        return ExitCode::from(CANNOT_START);
+    };
+    let alloc = rt.alloc();
+    let mut files = Disk::new(&rt);
+    let mut input = Input::new(rt.stdin());
+    let mut output = Output::new(rt.stdout().as_raw_fd());
+    let status = run_drive(alloc, &words, &mut files, &mut input, &mut output);
+    tell(alloc, &mut rt.stderr(), &status);
+    ExitCode::from(status.code())
+}
