@@ -16,3 +16,6 @@ mod words;
 pub use drive::run_drive;
 pub use settings::{Fault, FaultKind};
 pub use status::Status;
+
+#[cfg(test)]
+mod tests;
