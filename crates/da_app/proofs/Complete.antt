@@ -1,5 +1,5 @@
 -- A run with a good file, a good input and no fault is done, or wants memory.
-use Rattle.std.proofs.Common.{◌≡◌, ℕ, suc, ◌+◌, ◌^◌, ◌<◌, ◌≤◌, Bool, true, false, List, [], ◌∷◌, ◌++◌, length, eqb, Option, Some, None, Err, ◌⊎◌, refl, sym, ap, ◌∙◌, subst, inl, inr, arith, append-nil}
+use Rattle.std.proofs.Common.{◌≡◌, ℕ, suc, ◌^◌, ◌<◌, ◌≤◌, Bool, true, false, List, [], ◌∷◌, ◌++◌, length, eqb, Option, Some, None, Err, ◌⊎◌, sym, ap, ◌∙◌, subst, inl, inr, arith, append-nil}
 use Rattle.std.specs.Prelude.{is_some, ◌||◌, not, IfSome}
 use Rattle.std.specs.Io.KnownBytes.{Consumes, IsAtEnd}
 use Rattle.std.proofs.lemmas.Bool.{cases_Bool}
@@ -14,7 +14,7 @@ use Rattle.da_app.specs.declared.status.Status.TheVariants.{Done, Usage, BadScri
 use Rattle.da_app.specs.Events.{event_of}
 use Rattle.da_app.specs.Settings.{settings_of}
 use Rattle.da_app.specs.Script.{script_cut, bad_from, or_bad, first_bad, first_bad_at_end}
-use Rattle.da_app.specs.Drive.{Outside, RunsWith, Drives, IsGood, IsDone}
+use Rattle.da_app.specs.Drive.{Outside, Drives, IsGood, IsDone}
 
 bad_from-append : (n : ℕ) (lines more : List Bytes) (bad : ℕ) → bad_from n lines ≡ Some bad → bad_from n (lines ++ more) ≡ Some bad
 bad_from-append n [] more bad b = cc

@@ -1,5 +1,5 @@
 -- Lemmas on the whole command, by the status of its parts.
-use Rattle.std.proofs.Common.{◌≡◌, ℕ, ◌<◌, List, [], length, ltb, cond, Option, Some, None, Err, ◌⊎◌, refl, sym, ap, ◌∙◌, subst, inl, inr}
+use Rattle.std.proofs.Common.{◌≡◌, ◌<◌, List, length, Option, Some, None, Err, refl, sym, ap, ◌∙◌, subst, inl, inr}
 use Rattle.std.specs.Prelude.{IfSome}
 use Rattle.std.specs.Io.KnownBytes.{Keeps}
 use Rattle.std.proofs.KnownBytes.{Keeps-refl}
@@ -9,12 +9,12 @@ use Rattle.da_outside.specs.Files.{File, bytes_at}
 use Rattle.da_outside.specs.Past.{Stays}
 use Rattle.da_outside.specs.declared.files.FileRead.{FileRead}
 use Rattle.da_app.specs.declared.settings.Fault.{Fault}
-use Rattle.da_app.specs.declared.settings.FaultKind.TheVariants.{Range, Unknown}
+use Rattle.da_app.specs.declared.settings.FaultKind.TheVariants.{Range}
 use Rattle.da_app.specs.declared.settings.ConfigFault.{ConfigFault}
 use Rattle.da_app.specs.declared.settings.ConfigFault.TheVariants.{Bad, NoMemory as TextNoMemory}
 use Rattle.da_app.specs.declared.status.Status.{Status}
 use Rattle.da_app.specs.declared.status.Status.TheVariants.{Done, Usage, BadScript, LongScript, BadInput, NoSettings, NoListen, NoMemory, ReadFault, WriteFault, Full, BadSettings}
-use Rattle.da_app.specs.Settings.{settings_of, fault_at_all, is_first_text, first_settings, Reads}
+use Rattle.da_app.specs.Settings.{settings_of, fault_at_all, Reads}
 use Rattle.da_app.specs.Drive.{Outside, IsUntouched, RunsWith, Drives, Completes, IsTooLong, fault_status}
 use Rattle.da_app.proofs.Complete.{completes}
 

@@ -1,5 +1,5 @@
 -- Lemmas on the events of a script.
-use Rattle.std.proofs.Common.{◌≡◌, ℕ, ◌+◌, ◌-◌, ◌^◌, ◌<◌, ◌≤◌, List, [], Option, Some, None, eqb, leb, ◌&&◌, length, inl, inr, subst, refl, ap, arith}
+use Rattle.std.proofs.Common.{◌≡◌, ℕ, ◌+◌, ◌-◌, ◌^◌, ◌<◌, ◌≤◌, [], Option, Some, None, eqb, leb, ◌&&◌, length, inl, inr, subst, refl, arith}
 use Rattle.std.specs.Prelude.{option_map, codes, bytes_eq}
 use Rattle.std.proofs.lemmas.Bool.{cases_Bool, eqb-true}
 use Rattle.std.proofs.lemmas.Bool.Decides.{nat_tests}
@@ -10,7 +10,7 @@ use Rattle.da_fields.specs.declared.answer.Answer.TheVariants.{Found}
 use Rattle.da_hist.specs.declared.input.Input.{Input}
 use Rattle.da_hist.specs.declared.input.Input.TheVariants.{Opened, Line, Take, Answered}
 use Rattle.da_hist.specs.FirstLogin.{IsNext}
-use Rattle.da_app.specs.Events.{no_random, opened, is_said, said_with, said, taken, is_stored, answered_with, answered, input_of, event_with, event_after, event_of}
+use Rattle.da_app.specs.Events.{no_random, opened, is_said, said_with, said, taken, is_stored, answered_with, input_of, event_with, event_after, event_of}
 
 -- the input may be that of the line of this number: it is the next one of a first login
 pub record Placed (n : ℕ) (input : Input) : Type 0 where

@@ -8,7 +8,7 @@ use Rattle.std.proofs.lemmas.List.{length-append, length_push, take_at}
 use Rattle.std.proofs.lemmas.List.Elements.{All-nil}
 use Rattle.da_base.specs.Words.{Bytes, is_empty}
 use Rattle.da_outside.specs.Causes.{Rose}
-use Rattle.da_tabline.specs.Lines.{Cutter, LineCut, line_cut, new_cutter, after_feed, after_take}
+use Rattle.da_tabline.specs.Lines.{Cutter, line_cut, new_cutter, after_feed, after_take}
 use Rattle.da_tabline.proofs.StreamLemmas.{after_feed-append}
 use Rattle.da_hist.specs.declared.settings.Settings.{Settings}
 use Rattle.da_hist.specs.declared.input.Input.{Input}
@@ -19,8 +19,8 @@ use Rattle.da_app.specs.declared.status.Status.{Status}
 use Rattle.da_app.specs.declared.status.Status.TheVariants.{Done, BadScript, LongScript, NoMemory, ReadFault, WriteFault}
 use Rattle.da_app.specs.Events.{event_of}
 use Rattle.da_app.specs.Print.{printed, printed_from}
-use Rattle.da_app.specs.Output.{Begins, WrittenFront}
-use Rattle.da_app.specs.Script.{script_cut, with_event, events_from, bad_from, or_bad, first_bad, first_bad_at_end, output_from, output}
+use Rattle.da_app.specs.Output.{Begins}
+use Rattle.da_app.specs.Script.{script_cut, with_event, events_from, bad_from, or_bad, first_bad, output_from, output}
 use Rattle.da_app.specs.Fill.{FeedsBytes, ReadsSome, ReadsOne}
 use Rattle.da_app.specs.Play.{PlaysEvent, PlaysFront, Ends, Ran}
 use Rattle.da_app.proofs.EventLemmas.{event_placed}

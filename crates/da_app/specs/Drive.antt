@@ -9,7 +9,7 @@ use Rattle.da_outside.specs.declared.files.FileRead.{FileRead}
 use Rattle.da_outside.specs.declared.faults.Got.TheVariants.{Fault as GotFault}
 use Rattle.da_hist.specs.declared.settings.Settings.{Settings}
 use Rattle.da_app.specs.declared.status.Status.{Status}
-use Rattle.da_app.specs.declared.status.Status.TheVariants.{Done, Usage, BadScript, LongScript, BadInput, NoSettings, NoListen, NoMemory, ReadFault, WriteFault, Full, BadSettings}
+use Rattle.da_app.specs.declared.status.Status.TheVariants.{Done, Usage, NoSettings, NoMemory, BadSettings}
 use Rattle.da_app.specs.declared.settings.FaultKind.TheVariants.{Range}
 use Rattle.da_app.specs.declared.settings.ConfigFault.{ConfigFault}
 use Rattle.da_app.specs.declared.settings.ConfigFault.TheVariants.{Bad, NoMemory as TextNoMemory}

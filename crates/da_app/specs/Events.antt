@@ -1,5 +1,5 @@
 -- The events of a script: one in each line. The line of this number spells one event of a first login.
-use Rattle.std.specs.Prelude.{◌≡◌, ℕ, ◌-◌, ◌^◌, Bool, ◌&&◌, List, [], ◌∷◌, length, replicate, Option, Some, None, option_map, if◌then◌else◌, nat_le, ◌==◌, bytes_eq, codes, is_some}
+use Rattle.std.specs.Prelude.{ℕ, ◌-◌, ◌^◌, Bool, ◌&&◌, [], length, replicate, Option, Some, None, option_map, if◌then◌else◌, nat_le, ◌==◌, bytes_eq, codes, is_some}
 use Rattle.da_base.specs.Words.{Bytes, before_byte, after_byte, after_front, number_of, number, passes_option}
 use Rattle.da_msgs.specs.declared.kinds.ConnKind.TheVariants.{Client}
 use Rattle.da_fields.specs.declared.answer.Answer.TheVariants.{Found}

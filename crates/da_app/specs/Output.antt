@@ -1,5 +1,5 @@
 -- What is written of a text.
-use Rattle.std.specs.Prelude.{◌≡◌, ◌≤◌, ℕ, List, ◌++◌, Option, Result, Ok, Err}
+use Rattle.std.specs.Prelude.{◌≡◌, ◌≤◌, ℕ, ◌++◌, Option, Result, Ok, Err}
 use Rattle.std.specs.Io.KnownBytes.{Appends}
 use Rattle.da_base.specs.Words.{Bytes}
 use Rattle.da_outside.specs.declared.faults.Failed.{Failed}

@@ -1,5 +1,5 @@
 -- What the play of one line does, and how the play of a script may end.
-use Rattle.std.specs.Prelude.{◌≡◌, ◌<◌, ◌≤◌, ⊤, ℕ, ◌+◌, ◌^◌, ◌⊎◌, List, [], ◌∷◌, ◌++◌, length, take, Option, Some, None}
+use Rattle.std.specs.Prelude.{◌≡◌, ◌<◌, ◌≤◌, ℕ, ◌^◌, ◌⊎◌, length, take, Option, Some, None}
 use Rattle.std.specs.Io.KnownBytes.{Consumes, Appends, Keeps, IsAtEnd}
 use Rattle.da_base.specs.Words.{Bytes}
 use Rattle.da_outside.specs.Causes.{Rose}
@@ -10,7 +10,7 @@ use Rattle.da_hist.specs.Served.{Served}
 use Rattle.da_app.specs.declared.play.Turn.{Turn}
 use Rattle.da_app.specs.declared.play.Turn.TheVariants.{Played, NotEvent, WriteFault as TurnWriteFault, NoMemory as TurnNoMemory}
 use Rattle.da_app.specs.declared.status.Status.{Status}
-use Rattle.da_app.specs.declared.status.Status.TheVariants.{Done, Usage, BadScript, LongScript, BadInput, NoSettings, NoListen, NoMemory, ReadFault, WriteFault, Full, BadSettings}
+use Rattle.da_app.specs.declared.status.Status.TheVariants.{Done, BadScript, LongScript, NoMemory, ReadFault, WriteFault}
 use Rattle.da_app.specs.Events.{event_of}
 use Rattle.da_app.specs.Print.{printed}
 use Rattle.da_app.specs.Output.{Begins, WrittenFront}

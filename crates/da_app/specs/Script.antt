@@ -1,5 +1,5 @@
 -- A script as a text: its lines, its events, and the first line that is none.
-use Rattle.std.specs.Prelude.{◌≡◌, ℕ, suc, Bool, true, false, ◌||◌, not, List, [], ◌∷◌, length, Option, Some, None, if◌then◌else◌, is_some}
+use Rattle.std.specs.Prelude.{ℕ, suc, Bool, ◌||◌, not, List, [], ◌∷◌, length, Option, Some, None, if◌then◌else◌, is_some}
 use Rattle.da_base.specs.Words.{Bytes, is_empty}
 use Rattle.da_tabline.specs.Lines.{LineCut, line_cut}
 use Rattle.da_hist.specs.declared.settings.Settings.{Settings}

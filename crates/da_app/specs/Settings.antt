@@ -1,19 +1,15 @@
 -- The settings text.
-use Rattle.std.specs.Prelude.{◌≡◌, ⊤, ℕ, Bool, ◌||◌, List, [], ◌∷◌, length, Result, Ok, Err, if◌then◌else◌, nat_lt, bytes_eq, codes}
+use Rattle.std.specs.Prelude.{◌≡◌, ⊤, Bool, ◌||◌, length, Result, Ok, Err, if◌then◌else◌, nat_lt, bytes_eq, codes}
 use Rattle.da_base.specs.Words.{Bytes}
-use Rattle.da_msgs.specs.declared.kinds.Mech.TheVariants.{Plain}
 use Rattle.da_hist.specs.declared.settings.Settings.{Settings}
+use Rattle.da_hist.specs.UsualSettings.{usual_settings}
 use Rattle.da_app.specs.declared.settings.Fault.{Fault}
 use Rattle.da_app.specs.declared.settings.FaultKind.{FaultKind}
 use Rattle.da_app.specs.declared.settings.FaultKind.TheVariants.{Unknown, Range}
 use Rattle.da_app.specs.declared.settings.ConfigFault.{ConfigFault}
 use Rattle.da_app.specs.declared.settings.ConfigFault.TheVariants.{Bad, NoMemory}
 
--- the usual settings, and failures told at once
-abbrev pub first_settings : Settings
-first_settings = record { server_pid = 1; mechanisms = Plain ∷ []; failure_delay = 0 }
-
--- the only settings text so far is one line, whose LF may be missing
+-- the only settings text so far is one line, whose LF may be missing: the usual settings, and failures told at once
 abbrev pub is_first_text : Bytes → Bool
 is_first_text text = bytes_eq text (codes "failure_delay = 0") || bytes_eq text (codes "failure_delay = 0\n")
 
@@ -24,7 +20,7 @@ fault_at_all what = record { place = codes "settings"; kind = what }
 abbrev pub settings_of : Bytes → Result Settings Fault
 settings_of text =
     if nat_lt 1048576 (length text) then Err (fault_at_all Range)
-    else if is_first_text text then Ok first_settings
+    else if is_first_text text then Ok (usual_settings 0)
     else Err (fault_at_all Unknown)
 
 -- what a reader of the text answers

@@ -1,7 +1,6 @@
 -- The exit code of a status, and its words.
-use Rattle.std.specs.Prelude.{ℕ, List, [], ◌++◌, codes, decimal}
+use Rattle.std.specs.Prelude.{ℕ, [], ◌++◌, codes, decimal}
 use Rattle.da_base.specs.Words.{Bytes}
-use Rattle.da_app.specs.declared.settings.Fault.{Fault}
 use Rattle.da_app.specs.declared.settings.FaultKind.{FaultKind}
 use Rattle.da_app.specs.declared.settings.FaultKind.TheVariants.{NotToml, Unknown, Kind as WrongKind, Range, Conflict}
 use Rattle.da_app.specs.declared.status.Status.{Status}

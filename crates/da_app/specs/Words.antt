@@ -1,5 +1,5 @@
 -- The words of a command line, after the program's name.
-use Rattle.std.specs.Prelude.{ℕ, Bool, true, false, ◌&&◌, not, List, [], ◌∷◌, Option, Some, None, if◌then◌else◌, ◌==◌, bytes_eq, codes}
+use Rattle.std.specs.Prelude.{Bool, false, ◌&&◌, not, List, [], ◌∷◌, Option, Some, None, if◌then◌else◌, ◌==◌, bytes_eq, codes}
 use Rattle.da_base.specs.Words.{Bytes}
 
 -- a word may be a value: it isn't empty, and doesn't begin with `-`

@@ -1,11 +1,10 @@
 // The settings text.
 
 ghost use Rattle.std.specs.Prelude.{◌≡◌, IfOk};
-ghost use Rattle.da_app.specs.Settings.{IsBad, Reads, fault_at_all, first_settings, is_first_text};
+ghost use Rattle.da_app.specs.Settings.{IsBad, Reads, fault_at_all, is_first_text};
 
 use da_fields::Text;
-use da_hist::{Mechs, Settings};
-use da_msgs::Mech;
+use da_hist::Settings;
 use std::alloc::{AllocError, Global};
 
 /// What is wrong with a setting.
@@ -51,16 +50,6 @@ pub fn fault_of_text(alloc: Global, kind: FaultKind) -> Result<Fault, AllocError
     })
 }
 
-fn usual_settings(alloc: Global) -> Result<Settings, AllocError>
-    ensures { IfOk result (λ settings. settings ≡ first_settings) }
-{
-    Ok(Settings {
-        server_pid: 1,
-        mechanisms: Mechs::new(vec![in alloc; Mech::Plain]?),
-        failure_delay: 0,
-    })
-}
-
 fn is_known(text: &[u8]) -> bool
     ensures { result ≡ is_first_text text.now }
 {
@@ -86,7 +75,7 @@ pub fn read(alloc: Global, text: &[u8]) -> Result<Settings, ConfigFault>
     if !is_known(text) {
         return Err(bad(alloc, FaultKind::Unknown));
     }
-    match usual_settings(alloc) {
+    match Settings::usual(alloc, 0) {
         Ok(settings) => Ok(settings),
         Err(_) => Err(ConfigFault::NoMemory),
     }

@@ -1,0 +1,15 @@
+pub mod Entries
+pub mod EntryInduction
+pub mod RepliedOnce
+pub mod GrantedOnce
+pub mod DueLaw
+pub mod SuccessLaw
+pub mod OkLaw
+pub mod GrantLaw
+pub mod LineLaw
+pub mod StageLaw
+pub mod UsableLemmas
+pub mod HitsMade
+pub mod HitsLaw
+pub mod LegalLaw
+pub mod GrantStands

@@ -1,15 +1,15 @@
 -- The server on the path of a first login: one client connects, asks for one login, and one query settles it.
 -- The newest entry of a history stands first, so e ∷ g is the history g followed by the entry e.
-use Rattle.std.specs.Prelude.{◌≡◌, ◌<◌, ℕ, suc, max, Bool, true, false, ◌&&◌, not, List, [], ◌∷◌, ◌++◌, length, map, Option, Some, None, option_map, if◌then◌else◌, nat_le, is_some}
+use Rattle.std.specs.Prelude.{◌≡◌, ◌<◌, ℕ, suc, max, Bool, true, false, ◌&&◌, not, List, [], ◌∷◌, ◌++◌, length, Option, Some, None, option_map, if◌then◌else◌, nat_le, is_some}
 use Rattle.da_base.specs.Words.{Bytes, later, passes_option, option_or_else}
 use Rattle.da_fields.specs.declared.answer.Answer.{Answer}
-use Rattle.da_fields.specs.declared.answer.Answer.TheVariants.{Found, Passed, Mismatch, Unknown, Internal}
+use Rattle.da_fields.specs.declared.answer.Answer.TheVariants.{Found}
 use Rattle.da_fields.specs.declared.answer.Query.{Query}
 use Rattle.da_fields.specs.declared.answer.QueryKind.TheVariants.{Pass}
 use Rattle.da_hist.specs.declared.login.Login.{Login}
 use Rattle.da_hist.specs.declared.settings.Settings.{Settings}
 use Rattle.da_hist.specs.declared.input.Input.{Input}
-use Rattle.da_hist.specs.declared.input.Input.TheVariants.{Opened, Line, Broken, Gone, Take, Answered, Late, Tick}
+use Rattle.da_hist.specs.declared.input.Input.TheVariants.{Opened, Line, Take, Answered}
 use Rattle.da_hist.specs.declared.input.Entry.{Entry}
 use Rattle.da_hist.specs.declared.outputs.Outputs.{Outputs}
 use Rattle.da_hist.specs.declared.first_login.Request.{Request}

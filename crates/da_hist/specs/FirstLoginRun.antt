@@ -1,18 +1,13 @@
 -- A worked run: one client logs in as alice. The first password database gives the stored password that she sent.
-use Rattle.std.specs.Prelude.{ℕ, List, [], ◌∷◌, replicate, Option, Some, None, Result, Ok, codes}
+use Rattle.std.specs.Prelude.{ℕ, List, [], ◌∷◌, replicate, Some, None, Result, Ok, codes}
 use Rattle.da_base.specs.Words.{Bytes}
 use Rattle.da_msgs.specs.declared.kinds.ConnKind.TheVariants.{Client}
-use Rattle.da_msgs.specs.declared.kinds.Mech.TheVariants.{Plain}
 use Rattle.da_fields.specs.declared.answer.Answer.TheVariants.{Found}
 use Rattle.da_fields.specs.declared.answer.QueryKind.TheVariants.{Pass}
-use Rattle.da_hist.specs.declared.settings.Settings.{Settings}
 use Rattle.da_hist.specs.declared.input.Input.{Input}
 use Rattle.da_hist.specs.declared.input.Input.TheVariants.{Opened, Line, Take, Answered}
 use Rattle.da_hist.specs.declared.outputs.Outputs.{Outputs}
 use Rattle.da_hist.specs.declared.outputs.Refused.{Refused}
-
-abbrev pub usual_settings : Settings
-usual_settings = record { server_pid = 1; mechanisms = Plain ∷ []; failure_delay = 0 }
 
 abbrev pub no_random : Bytes
 no_random = replicate 16 0

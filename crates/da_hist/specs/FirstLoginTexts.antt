@@ -1,7 +1,7 @@
 -- The texts of a first login: the line that asks for it, and the lines that the server sends.
 use Rattle.std.specs.Prelude.{ℕ, Bool, true, false, ◌&&◌, not, List, [], ◌∷◌, ◌++◌, length, map, Option, Some, None, option_and_then, if◌then◌else◌, nat_lt, nat_le, ◌==◌, bytes_eq, codes, decimal}
 use Rattle.std.specs.List.{list_all}
-use Rattle.da_base.specs.Words.{Bytes, passes_option, before_byte, after_byte, after_front, is_empty, from_base64, hex}
+use Rattle.da_base.specs.Words.{Bytes, passes_option, before_byte, after_byte, after_front, from_base64, hex}
 use Rattle.da_msgs.specs.declared.kinds.Mech.{Mech}
 use Rattle.da_msgs.specs.declared.kinds.Mech.TheVariants.{Plain, Login as LoginMech, CramMd5, ScramSha256}
 use Rattle.da_hist.specs.declared.login.Login.{Login}

@@ -5,6 +5,7 @@
 
 mod first_login;
 mod input;
+pub mod laws;
 mod lines;
 mod lists;
 mod login;
@@ -12,13 +13,16 @@ mod outputs;
 mod plain;
 mod runs;
 mod settings;
+pub mod state;
 #[cfg(test)]
 mod tests;
+mod usual;
 
 pub use input::{Entry, Input};
-pub use lists::{Mechs, Numbers, Sent};
+pub use lists::{Mechs, Numbers, Passdbs, Sent, Texts, Userdbs};
 pub use login::{Login, is_user_name};
 pub use outputs::{Outputs, Refused};
 pub use plain::Plain;
 pub use runs::a_first_login_is_answered;
 pub use settings::{Goal, Settings};
+pub use usual::usual_passdb;

@@ -4,6 +4,8 @@ ghost use Rattle.std.specs.Prelude.{◌≡◌};
 
 use da_fields::Text;
 use da_msgs::Mech;
+use da_passdb::Passdb;
+use da_userdb::Userdb;
 use std::marker::Model;
 
 /// Numbers of queries.
@@ -91,6 +93,98 @@ impl Mechs {
 
     /// All mechanisms, in order.
     pub fn all(&self) -> &[Mech]
+        ensures { result.now ≡ self.now }
+    {
+        &self.items
+    }
+}
+
+/// Texts.
+#[derive(Drop)]
+pub struct Texts {
+    items: Vec<Text>,
+}
+
+impl Model for Texts {
+    ghost use Rattle.std.specs.Prelude.{List, ℕ};
+
+    ghost Value = { List (List ℕ) };
+
+    ghost view = { λ t. t.items.items };
+}
+
+impl Texts {
+    /// The list of these texts. It takes no memory.
+    pub fn new(items: Vec<Text>) -> Texts
+        ensures { result ≡ items.items }
+    {
+        Texts { items }
+    }
+
+    /// All texts, in order.
+    pub fn all(&self) -> &[Text]
+        ensures { result.now ≡ self.now }
+    {
+        &self.items
+    }
+}
+
+/// Password databases.
+#[derive(Drop)]
+pub struct Passdbs {
+    items: Vec<Passdb>,
+}
+
+impl Model for Passdbs {
+    ghost use Rattle.std.specs.Prelude.{List};
+    ghost use Rattle.da_passdb.specs.declared.database.Passdb.{Passdb};
+
+    ghost Value = { List Passdb };
+
+    ghost view = { λ d. d.items.items };
+}
+
+impl Passdbs {
+    /// The list of these databases. It takes no memory.
+    pub fn new(items: Vec<Passdb>) -> Passdbs
+        ensures { result ≡ items.items }
+    {
+        Passdbs { items }
+    }
+
+    /// All databases, in order.
+    pub fn all(&self) -> &[Passdb]
+        ensures { result.now ≡ self.now }
+    {
+        &self.items
+    }
+}
+
+/// User databases.
+#[derive(Drop)]
+pub struct Userdbs {
+    items: Vec<Userdb>,
+}
+
+impl Model for Userdbs {
+    ghost use Rattle.std.specs.Prelude.{List};
+    ghost use Rattle.da_userdb.specs.declared.database.Userdb.{Userdb};
+
+    ghost Value = { List Userdb };
+
+    ghost view = { λ d. d.items.items };
+}
+
+impl Userdbs {
+    /// The list of these databases. It takes no memory.
+    pub fn new(items: Vec<Userdb>) -> Userdbs
+        ensures { result ≡ items.items }
+    {
+        Userdbs { items }
+    }
+
+    /// All databases, in order.
+    pub fn all(&self) -> &[Userdb]
         ensures { result.now ≡ self.now }
     {
         &self.items

@@ -30,12 +30,7 @@ fn text(alloc: Global, bytes: &[u8]) -> Result<Text, AllocError> {
 #[test]
 fn a_right_password_is_answered_ok(rt: HostRuntime) -> Result<(), Fail> {
     let alloc = rt.alloc();
-    let settings = Settings {
-        server_pid: 1,
-        mechanisms: Mechs::new(vec![in alloc; Mech::Plain]?),
-        failure_delay: 0,
-    };
-    let mut server = Plain::new(alloc, settings, None)?;
+    let mut server = Plain::new(alloc, Settings::usual(alloc, 0)?, None)?;
     let opened = server.step(
         1000,
         Input::Opened {

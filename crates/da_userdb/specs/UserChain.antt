@@ -1,7 +1,7 @@
 -- The chain of user databases: what a lookup asks next, or what it finds, from the answers so far.
 use Rattle.std.specs.Prelude.{ℕ, suc, Bool, true, false, ◌&&◌, not, List, [], ◌∷◌, Option, Some, None, if◌then◌else◌, ◌==◌}
 use Rattle.std.specs.List.{list_all}
-use Rattle.da_base.specs.Words.{Bytes, is_empty}
+use Rattle.da_base.specs.Words.{is_empty}
 use Rattle.da_fields.specs.FieldList.{Pairs, merge, userdb_part}
 use Rattle.da_fields.specs.Answers.{Answers, answer_from, answer_fields, fits, rule_for}
 use Rattle.da_names.specs.Templates.{expand_fields, is_template_field}
@@ -13,6 +13,7 @@ use Rattle.da_fields.specs.declared.outcome.Outcome.TheVariants.{Success, Unknow
 use Rattle.da_fields.specs.declared.outcome.Rule.{Rule}
 use Rattle.da_fields.specs.declared.outcome.Rule.TheVariants.{ReturnOk, ReturnFail, Return, ContinueOk, ContinueFail, Continue}
 use Rattle.da_names.specs.declared.variables.Vars.{Vars}
+use Rattle.da_userdb.specs.declared.database.Lookup.{Lookup}
 use Rattle.da_userdb.specs.declared.database.Userdb.{Userdb}
 use Rattle.da_userdb.specs.declared.database.UserChain.{UserChain}
 use Rattle.da_userdb.specs.declared.database.UserChain.TheVariants.{Ask, Found, NotFound, Temp}
@@ -36,12 +37,6 @@ abbrev pub are_valid_userdbs : List Userdb → Bool
 are_valid_userdbs dbs = are_valid_from 1 dbs
 
 -- ---- a walk along the databases
-
--- for whom a lookup is made: the user, the fields that the password databases gave, and what variables stand for
-pub record Lookup : Type 0 where
-  pub user : Bytes
-  pub passdb_fields : Pairs
-  pub vars : Vars
 
 -- the state of a chain
 pub record UserProgress : Type 0 where

@@ -1,6 +1,7 @@
 // User databases, and what a chain of them comes to.
 
 use da_fields::{Fields, Rule, Text};
+use da_names::Vars;
 
 /// When a database is passed over.
 #[derive(Clone, Copy, Drop, PartialEq, Eq)]
@@ -48,4 +49,12 @@ pub enum UserChain {
     NotFound,
     /// The user was not found, and a database gave no answer.
     Temp,
+}
+
+/// For whom a lookup is made: a user, the fields that the password databases gave, and what variables stand for.
+#[derive(Drop)]
+pub struct Lookup {
+    pub user: Text,
+    pub passdb_fields: Fields,
+    pub vars: Vars,
 }

@@ -4,4 +4,4 @@
 mod database;
 
 pub use da_fields::Rule as UserRule;
-pub use database::{UserChain, UserDriver, UserSkip, Userdb};
+pub use database::{Lookup, UserChain, UserDriver, UserSkip, Userdb};

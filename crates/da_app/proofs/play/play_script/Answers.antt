@@ -1,4 +1,4 @@
-use Rattle.std.proofs.Common.{◌≡◌, ◌+◌, ◌≤◌, ◌<◌, length, List, [], ◌∷◌, None, sym, ap, ◌∙◌, arith}
+use Rattle.std.proofs.Common.{◌≡◌, length, List, [], ◌∷◌, None, sym, ap, ◌∙◌, arith}
 use Rattle.da_base.specs.Words.{Bytes}
 use Rattle.da_tabline.specs.Lines.{Cutter}
 use Rattle.da_outside.specs.Causes.{Rose}

@@ -1,0 +1,40 @@
+-- Laws on final replies.
+use Rattle.std.specs.Prelude.{◌≡◌, ◌≤◌, ℕ, true, false, ◌&&◌, not, List, [], ◌∷◌, filter, Some, ◌==◌, nat_le, is_some}
+use Rattle.std.specs.List.{list_any, list_all}
+use Rattle.da_base.specs.Words.{nth, passes_option, count_where}
+use Rattle.da_hist.specs.declared.input.Entry.{Entry}
+use Rattle.da_hist.specs.declared.settings.Settings.{Settings}
+use Rattle.da_hist.specs.declared.state.Decision.{Decision}
+use Rattle.da_hist.specs.declared.state.Request.{Request}
+use Rattle.da_hist.specs.declared.state.State.{State}
+use Rattle.da_hist.specs.Requests.{is_due, decision, due_moment, final_line}
+use Rattle.da_hist.specs.History.{state}
+use Rattle.da_hist.specs.Effects.{effects, final_replies, all_final_replies, reply_lines}
+
+-- a request has at most one final reply
+abbrev pub RepliesAtMostOnce : Type 0
+RepliesAtMostOnce = (settings : Settings) (h : List Entry) (n : ℕ) → count_where (λ m. m == n) (all_final_replies settings h) ≤ 1
+
+-- after an entry no reply is left that is due at its moment
+abbrev pub NothingDueIsLeft : Type 0
+NothingDueIsLeft = (settings : Settings) (e : Entry) (g : List Entry) → list_any (is_due settings e.moment) (state settings (e ∷ g)).requests ≡ false
+
+-- a final reply is one of a request that is decided by its stage, and whose reply is due
+abbrev pub RepliesAreDue : Type 0
+RepliesAreDue =
+    (settings : Settings) (e : Entry) (g : List Entry) (n : ℕ) →
+    list_any (λ m. m == n) (final_replies (effects settings (state settings g) e)) ≡ true →
+    (r : Request) × (nth (state settings (e ∷ g)).requests n ≡ Some r) × (is_some (decision settings r) ≡ true)
+    × (r.replied ≡ Some e.moment) × (passes_option (λ due. nat_le due e.moment) (due_moment settings r) ≡ true)
+
+-- what is decided by its stage is noted as decided, unless it is cancelled
+abbrev pub DecisionsAreNoted : Type 0
+DecisionsAreNoted =
+    (settings : Settings) (h : List Entry) →
+    list_all (λ r. r.is_cancelled) (filter (λ r. not (is_some r.decided) && is_some (decision settings r)) (state settings h).requests) ≡ true
+
+-- a final reply is one line, to the connection of its request
+abbrev pub RepliesAreLines : Type 0
+RepliesAreLines =
+    (settings : Settings) (st : State) (n : ℕ) (r : Request) (d : Decision) →
+    nth st.requests n ≡ Some r → decision settings r ≡ Some d → reply_lines settings st n ≡ (r.conn, final_line r.id d) ∷ []

@@ -1,0 +1,68 @@
+// Laws of the sequential server: each is a contract, and its function does nothing.
+
+ghost use Rattle.da_hist.specs.ReplyLaws.{RepliesAtMostOnce, NothingDueIsLeft, RepliesAreLines};
+ghost use Rattle.da_hist.specs.StageLaws.{StageIsOwn};
+ghost use Rattle.da_hist.specs.GrantLaws.{GrantedAtMostOnce, UserWasGranted, GrantsStand};
+ghost use Rattle.da_hist.specs.SuccessLaws.{OkHasItsAnswer};
+ghost use Rattle.da_hist.specs.HitLaws.{HitsAreUnique, HitsAreHits};
+ghost use Rattle.da_hist.specs.PlayLaws.{PlaysAreLegal, LegalIsPlayed};
+
+/// A request has at most one final reply, whatever its history.
+pub fn replies_at_most_once()
+    ensures { RepliesAtMostOnce }
+{}
+
+/// After an entry no reply is left that is due at its moment.
+pub fn nothing_due_is_left()
+    ensures { NothingDueIsLeft }
+{}
+
+/// A final reply is one line, to the connection of its request.
+pub fn replies_are_lines()
+    ensures { RepliesAreLines }
+{}
+
+/// The stage of an attempt to log in depends on the attempt alone, whatever else the history holds.
+pub fn stage_is_own()
+    ensures { StageIsOwn }
+{}
+
+/// A login that was authenticated serves one request of a master at most.
+pub fn granted_at_most_once()
+    ensures { GrantedAtMostOnce }
+{}
+
+/// A user is given to a request that was granted by the entry that was its own `REQUEST`.
+pub fn user_was_granted()
+    ensures { UserWasGranted }
+{}
+
+/// Where failures let nobody in, a request that is told OK has a recorded answer that is a success for its own login.
+pub fn ok_has_its_answer()
+    ensures { OkHasItsAnswer }
+{}
+
+/// There is at most one list of hits.
+pub fn hits_are_unique()
+    ensures { HitsAreUnique }
+{}
+
+/// The hits that the server makes are the hits.
+pub fn hits_are_hits()
+    ensures { HitsAreHits }
+{}
+
+/// What is played is legal.
+pub fn plays_are_legal()
+    ensures { PlaysAreLegal }
+{}
+
+/// A legal history is the one that its own events play.
+pub fn legal_is_played()
+    ensures { LegalIsPlayed }
+{}
+
+/// A master's request is granted only for a client's open connection of its process number and cookie, and a login there that was told OK in time and is neither cancelled nor used.
+pub fn grants_stand()
+    ensures { GrantsStand }
+{}
