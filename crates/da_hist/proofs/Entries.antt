@@ -285,7 +285,7 @@ answer_quiet : (db : ℕ) (answer : Answer) (r : Request) → IsQuiet r (with_an
 answer_quiet db answer r = record { replied = refl; grant = λ c. refl }
 
 late_quiet : (db : ℕ) (answer : Answer) (r : Request) → IsQuiet r (with_late_answer db answer r)
-late_quiet db answer r = by_test (λ s. IsQuiet r s) r.is_cancelled (with_answer db answer r) r (λ e. answer_quiet db answer r) (λ e. same_quiet r)
+late_quiet db answer r = by_test (λ s. IsQuiet r s) (is_some r.decided) r (with_answer db answer r) (λ e. same_quiet r) (λ e. answer_quiet db answer r)
 
 fair_answers : (st : State) (n : ℕ) (q : Question) (answer : Answer) → IsFair st.requests (answers_request n q answer st)
 fair_answers st n q answer = by_test (λ h. IsFair st.requests h) (passes_option is_undecided (nth st.requests n)) _ (moving_none (with_request (with_late_answer q.db answer) n st))

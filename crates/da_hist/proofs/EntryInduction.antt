@@ -1,5 +1,5 @@
 -- What each part of an entry keeps of the requests, an entry keeps.
-use Rattle.std.proofs.Common.{◌≡◌, refl, sym, ◌∙◌, ap, subst, Option, Some, None, List, [], ◌∷◌, ◌++◌, ℕ, zero, suc, Bool, true, cond, map, length, slice_get, option_map}
+use Rattle.std.proofs.Common.{◌≡◌, refl, sym, ◌∙◌, ap, subst, Option, Some, None, List, [], ◌∷◌, ◌++◌, ℕ, zero, suc, Bool, true, cond, map, length, slice_get, option_map, is_some}
 use Rattle.da_hist.proofs.Entries.{by_test, and_first}
 use Rattle.da_hist.proofs.RepliedOnce.{keeps_requests}
 use Rattle.da_base.specs.Words.{nth, changed_at, changed_nth, passes_option, option_or_else, Bytes}
@@ -35,9 +35,15 @@ use Rattle.da_msgs.specs.declared.master.MasterMsg.TheVariants.{Version as Maste
 use Rattle.da_hist.specs.LinesHeard.{line_by, with_text}
 use Rattle.da_hist.specs.Queries.{with_late_answer, answered_by}
 use Rattle.da_hist.specs.Tables.{cancelled, with_query, with_request}
+use Rattle.da_hist.specs.Requests.{decision, decision_in}
+use Rattle.da_hist.specs.declared.state.Decision.{Decision}
 
 abbrev pub IsUndecidedAt : List Request → ℕ → Type 0
 IsUndecidedAt rs n = passes_option is_undecided (nth rs n) ≡ true
+
+-- the stage of request n is decided
+abbrev pub HasDecisionAt : Settings → List Request → ℕ → Type 0
+HasDecisionAt settings rs n = passes_option (λ r. is_some (decision settings r)) (nth rs n) ≡ true
 
 -- a fact on the requests that each part of an entry at this moment keeps, where origin is the state before the entry
 pub record EachPartKeeps (settings : Settings) (moment : ℕ) (origin : State) (entered : Input) (Q : List Request → Type 0) : Type 0 where
@@ -49,7 +55,7 @@ pub record EachPartKeeps (settings : Settings) (moment : ℕ) (origin : State) (
   pub login : (rs : List Request) (conn id : ℕ) (random mechanism : Bytes) (parameters : Pairs) (resp : Option Bytes) → Q rs → Q (rs ++ new_request moment conn id random (Authenticates mechanism parameters resp []) ∷ [])
   pub lookup : (conn id pid client : ℕ) (random cookie text : Bytes) → entered ≡ Line conn text random → master_message text ≡ Some (LookupRequest id pid client cookie) → Q (with_due_replied settings moment origin).requests →
       Q ((with_due_replied settings moment origin).requests ++ new_request moment conn id random (LooksUp (granted settings moment (with_due_replied settings moment origin) pid client cookie)) ∷ [])
-  pub decide : (rs : List Request) (n : ℕ) → IsUndecidedAt rs n → Q rs → Q (changed_nth (with_decision settings moment) rs n)
+  pub decide : (rs : List Request) (n : ℕ) → IsUndecidedAt rs n → HasDecisionAt settings rs n → Q rs → Q (changed_nth (with_decision settings moment) rs n)
 
 -- ---- the request that is moved is undecided
 
@@ -188,23 +194,27 @@ module _ (settings : Settings) (moment : ℕ) (origin : State) (entered : Input)
       go None = h
       go (Some p) = record { kept = k.answer st.requests mover a.question.db p.0 h.undecided h.kept; undecided = still_undecided (with_answer a.question.db p.0) (λ r. refl) st.requests mover h.undecided }
 
-  sound_hits : (mover : ℕ) (hits : List ℕ) (st : State) → IsHit mover st.requests → IsHit mover (after_hits settings mover st hits).requests
+  pub sound_hits : (mover : ℕ) (hits : List ℕ) (st : State) → IsHit mover st.requests → IsHit mover (after_hits settings mover st hits).requests
   sound_hits mover [] st h = h
   sound_hits mover (n ∷ ns) st h = sound_hits mover ns (after_hit settings mover st n) (sound_hit mover n (nth st.queries n) st h)
 
-  sound_follows : (n : ℕ) (o : Option Request) (st : State) → IsHit n st.requests → Q (follows_for settings moment n o st).requests
-  sound_follows n None st h = h.kept
-  sound_follows n (Some r) st h = go (request_stage settings r)
+  stage_decides : (n : ℕ) (r : Request) (d : Decision) (rs : List Request) → nth rs n ≡ Some r → request_stage settings r ≡ Decided d → HasDecisionAt settings rs n
+  unfolding decision
+  stage_decides n r d rs is e = ap (passes_option (λ q. is_some (decision settings q))) is ∙ ap (λ s. is_some (decision_in s)) e
+
+  sound_follows : (n : ℕ) (o : Option Request) (st : State) → nth st.requests n ≡ o → IsHit n st.requests → Q (follows_for settings moment n o st).requests
+  sound_follows n None st is h = h.kept
+  sound_follows n (Some r) st is h = go (request_stage settings r) refl
     where
-      go : (s : Stage) → Q (follows_from settings moment n r s st).requests
-      go (Awaits text) = h.kept
-      go (Asks q) = h.kept
-      go (Decided d) = k.decide st.requests n h.undecided h.kept
+      go : (s : Stage) → request_stage settings r ≡ s → Q (follows_from settings moment n r s st).requests
+      go (Awaits text) e = h.kept
+      go (Asks q) e = h.kept
+      go (Decided d) e = k.decide st.requests n h.undecided (stage_decides n r d st.requests is e) h.kept
 
   sound_moved : (hits : List ℕ) (st : State) (o : Option ℕ) → Q st.requests → MoverUndecided st.requests o → Q (option_or_else o st (λ number. settled settings moment number (after_hits settings number st hits))).requests
   unfolding settled
   sound_moved hits st None q u = q
-  sound_moved hits st (Some n) q u = sound_follows n _ (after_hits settings n st hits) (sound_hits n hits st (record { kept = q; undecided = u }))
+  sound_moved hits st (Some n) q u = sound_follows n _ (after_hits settings n st hits) refl (sound_hits n hits st (record { kept = q; undecided = u }))
 
   -- after part one, an entry keeps what each of its parts keeps
   pub after_part_one : (hits : List ℕ) → Q before.requests → Q (after settings origin (record { moment = moment; input = entered; hits = hits })).requests

@@ -1,5 +1,5 @@
 -- A user is given to a request that an entry has granted.
-use Rattle.std.proofs.Common.{◌≡◌, refl, sym, ap, subst, Option, Some, None, List, [], ◌∷◌, ◌++◌, ℕ, zero, suc, Bool, true, false, cond, map, slice_get, true≢false}
+use Rattle.std.proofs.Common.{◌≡◌, refl, sym, ap, subst, Option, Some, None, List, [], ◌∷◌, ◌++◌, ℕ, zero, suc, Bool, true, false, cond, map, slice_get, is_some, true≢false}
 use Rattle.std.proofs.lemmas.Option.{none-some, same_Some}
 use Rattle.da_hist.proofs.Entries.{by_test}
 use Rattle.da_hist.proofs.EntryInduction.{EachPartKeeps, after_part_one}
@@ -92,12 +92,12 @@ module _ (P : Made) where
   parts settings moment origin entered h = record {
     text = λ rs n text u q. changed_keeps (with_text text) (λ r p. text_keeps (P r.conn r.id r.random) text r.body p) rs n q;
     answer = λ rs n db answer u q. changed_keeps (with_answer db answer) (λ r p. p) rs n q;
-    late = λ rs n db answer q. changed_keeps (with_late_answer db answer) (λ r p. either_keeps r.is_cancelled (with_answer db answer r) r p p) rs n q;
+    late = λ rs n db answer q. changed_keeps (with_late_answer db answer) (λ r p. either_keeps (is_some r.decided) r (with_answer db answer r) p p) rs n q;
     cancel = λ rs n q. changed_keeps cancelled (λ r p. p) rs n q;
     end = λ rs conn q. mapped (λ r. cond (is_of conn r) (cancelled r) r) (λ r p. either_keeps (is_of conn r) (cancelled r) r p p) rs q;
     login = λ rs conn id random mechanism parameters resp q. added rs _ tt q;
     lookup = λ conn id pid client random cookie text l m q. added (with_due_replied settings moment origin).requests _ (of_grant (P conn id random) (granted settings moment (with_due_replied settings moment origin) pid client cookie) (λ grant is. h conn id pid client random cookie text grant l m is)) q;
-    decide = λ rs n u q. changed_keeps (with_decision settings moment) (λ r p. either_keeps (is_due settings moment (record r { decided = Some moment })) _ _ p p) rs n q;
+    decide = λ rs n u d q. changed_keeps (with_decision settings moment) (λ r p. either_keeps (is_due settings moment (record r { decided = Some moment })) _ _ p p) rs n q;
   }
 
   part_one : (settings : Settings) (moment : ℕ) (st : State) → AllGrants P st.requests → AllGrants P (with_due_replied settings moment st).requests

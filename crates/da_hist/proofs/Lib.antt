@@ -13,3 +13,4 @@ pub mod HitsMade
 pub mod HitsLaw
 pub mod LegalLaw
 pub mod GrantStands
+pub mod ReplyDue

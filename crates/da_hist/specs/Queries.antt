@@ -106,9 +106,9 @@ abbrev pub answered_by : Settings → ℕ → Option Request → Answer → Aske
 answered_by settings moment r answer a =
     record a { answer = Some (answer, moment); tests = tested_by settings r a.question answer a.tests }
 
--- a cancelled request has its late answer too
+-- a request that was cancelled before it was decided has its late answer too
 abbrev pub with_late_answer : ℕ → Answer → Request → Request
-with_late_answer db answer r = if r.is_cancelled then with_answer db answer r else r
+with_late_answer db answer r = if is_some r.decided then r else with_answer db answer r
 
 -- the answer to its query moves a request, unless it was cancelled before
 abbrev pub answers_request : ℕ → Question → Answer → State → Heard

@@ -1,6 +1,6 @@
 // Laws of the sequential server: each is a contract, and its function does nothing.
 
-ghost use Rattle.da_hist.specs.ReplyLaws.{RepliesAtMostOnce, NothingDueIsLeft, RepliesAreLines};
+ghost use Rattle.da_hist.specs.ReplyLaws.{RepliesAtMostOnce, NothingDueIsLeft, RepliesAreLines, RepliesAreDue};
 ghost use Rattle.da_hist.specs.StageLaws.{StageIsOwn};
 ghost use Rattle.da_hist.specs.GrantLaws.{GrantedAtMostOnce, UserWasGranted, GrantsStand};
 ghost use Rattle.da_hist.specs.SuccessLaws.{OkHasItsAnswer};
@@ -65,4 +65,9 @@ pub fn legal_is_played()
 /// A master's request is granted only for a client's open connection of its process number and cookie, and a login there that was told OK in time and is neither cancelled nor used.
 pub fn grants_stand()
     ensures { GrantsStand }
+{}
+
+/// A final reply is one of a request that is decided by its stage, and whose reply is due, never before.
+pub fn replies_are_due()
+    ensures { RepliesAreDue }
 {}
