@@ -14,8 +14,6 @@ mod plain;
 mod runs;
 mod settings;
 pub mod state;
-#[cfg(test)]
-mod tests;
 mod usual;
 
 pub use input::{Entry, Input};
