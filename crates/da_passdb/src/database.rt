@@ -1,7 +1,10 @@
 // Password databases.
 
+ghost use Rattle.std.specs.Prelude.{◌≡◌, IfOk};
+
 use da_fields::{Fields, Rule, Text};
 use da_schemes::Scheme;
+use std::alloc::{AllocError, Global};
 
 /// When a database is passed over.
 #[derive(Clone, Copy, Drop, PartialEq, Eq)]
@@ -45,4 +48,27 @@ pub struct Passdb {
     pub username_filter: Text,
     pub default_fields: Fields,
     pub override_fields: Fields,
+}
+
+impl Passdb {
+    /// An equal database.
+    pub fn copy(&self, alloc: Global) -> Result<Passdb, AllocError>
+        ensures { IfOk result (λ db. db ≡ self.now) }
+    {
+        Ok(Passdb {
+            number: self.number,
+            driver: self.driver,
+            args: self.args.copy(alloc)?,
+            deny: self.deny,
+            master: self.master,
+            skip: self.skip,
+            result_success: self.result_success,
+            result_failure: self.result_failure,
+            result_internalfail: self.result_internalfail,
+            default_scheme: self.default_scheme,
+            username_filter: self.username_filter.copy(alloc)?,
+            default_fields: self.default_fields.copy(alloc)?,
+            override_fields: self.override_fields.copy(alloc)?,
+        })
+    }
 }

@@ -1,7 +1,10 @@
 // User databases, and what a chain of them comes to.
 
+ghost use Rattle.std.specs.Prelude.{◌≡◌, IfOk};
+
 use da_fields::{Fields, Rule, Text};
 use da_names::Vars;
+use std::alloc::{AllocError, Global};
 
 /// When a database is passed over.
 #[derive(Clone, Copy, Drop, PartialEq, Eq)]
@@ -38,6 +41,25 @@ pub struct Userdb {
     pub result_internalfail: Rule,
     pub default_fields: Fields,
     pub override_fields: Fields,
+}
+
+impl Userdb {
+    /// An equal database.
+    pub fn copy(&self, alloc: Global) -> Result<Userdb, AllocError>
+        ensures { IfOk result (λ db. db ≡ self.now) }
+    {
+        Ok(Userdb {
+            number: self.number,
+            driver: self.driver,
+            args: self.args.copy(alloc)?,
+            skip: self.skip,
+            result_success: self.result_success,
+            result_failure: self.result_failure,
+            result_internalfail: self.result_internalfail,
+            default_fields: self.default_fields.copy(alloc)?,
+            override_fields: self.override_fields.copy(alloc)?,
+        })
+    }
 }
 
 /// What a chain does next, or how it ends.
