@@ -1,3 +1,4 @@
+pub mod SettingsRanges
 pub mod UsualSettings
 pub mod Attempts
 pub mod Requests

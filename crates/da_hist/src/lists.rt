@@ -1,11 +1,12 @@
 // Lists, as they stand in entries, outputs and settings.
 
-ghost use Rattle.std.specs.Prelude.{◌≡◌};
+ghost use Rattle.std.specs.Prelude.{◌≡◌, IfOk};
 
 use da_fields::Text;
 use da_msgs::Mech;
 use da_passdb::Passdb;
 use da_userdb::Userdb;
+use std::alloc::{AllocError, Global};
 use std::marker::Model;
 
 /// Numbers of queries.
@@ -97,6 +98,15 @@ impl Mechs {
     {
         &self.items
     }
+
+    /// Equal mechanisms.
+    pub fn copy(&self, alloc: Global) -> Result<Mechs, AllocError>
+        ensures { IfOk result (λ copy. copy ≡ self.now) }
+    {
+        Ok(Mechs {
+            items: Vec::from_slice(alloc, &self.items)?,
+        })
+    }
 }
 
 /// Texts.
@@ -126,6 +136,17 @@ impl Texts {
         ensures { result.now ≡ self.now }
     {
         &self.items
+    }
+
+    /// Equal texts.
+    pub fn copy(&self, alloc: Global) -> Result<Texts, AllocError>
+        ensures { IfOk result (λ copy. copy ≡ self.now) }
+    {
+        let mut items = Vec::new(alloc);
+        for text in &self.items {
+            items.push(text.copy(alloc)?)?;
+        }
+        Ok(Texts { items })
     }
 }
 
@@ -158,6 +179,17 @@ impl Passdbs {
     {
         &self.items
     }
+
+    /// Equal databases.
+    pub fn copy(&self, alloc: Global) -> Result<Passdbs, AllocError>
+        ensures { IfOk result (λ copy. copy ≡ self.now) }
+    {
+        let mut items = Vec::new(alloc);
+        for db in &self.items {
+            items.push(db.copy(alloc)?)?;
+        }
+        Ok(Passdbs { items })
+    }
 }
 
 /// User databases.
@@ -188,5 +220,16 @@ impl Userdbs {
         ensures { result.now ≡ self.now }
     {
         &self.items
+    }
+
+    /// Equal databases.
+    pub fn copy(&self, alloc: Global) -> Result<Userdbs, AllocError>
+        ensures { IfOk result (λ copy. copy ≡ self.now) }
+    {
+        let mut items = Vec::new(alloc);
+        for db in &self.items {
+            items.push(db.copy(alloc)?)?;
+        }
+        Ok(Userdbs { items })
     }
 }

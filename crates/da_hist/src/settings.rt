@@ -1,9 +1,14 @@
 // Settings, and the goal of a run.
 
+ghost use Rattle.std.specs.Prelude.{◌≡◌, IfOk};
+
 use crate::lists::{Mechs, Passdbs, Texts, Userdbs};
 use da_fields::Text;
+use std::alloc::{AllocError, Global};
+use std::marker::Model;
 
-/// The settings of a server.
+/// The settings of a server. Each value is in its range, the lists of databases are valid, and no two values conflict:
+/// whoever makes settings owes that.
 #[derive(Drop)]
 pub struct Settings {
     /// The process number that clients and masters are told.
@@ -42,6 +47,46 @@ pub struct Settings {
     pub connections: u32,
     pub passdb: Passdbs,
     pub userdb: Userdbs,
+}
+
+impl Model for Settings {
+    ghost use Rattle.da_hist.specs.SettingsRanges.{SettingValues, AreInRange};
+
+    ghost Value = { SettingValues };
+
+    ghost view = { λ s. record { server_pid = s.server_pid; host = s.host; mechanisms = s.mechanisms; username_chars = s.username_chars; username_lower = s.username_lower; master_separator = s.master_separator; failure_delay = s.failure_delay; cache_size = s.cache_size; cache_ttl = s.cache_ttl; cache_negative_ttl = s.cache_negative_ttl; query_limit = s.query_limit; workers = s.workers; worker_command = s.worker_command; client_socket = s.client_socket; master_socket = s.master_socket; history_entries = s.history_entries; history_bytes = s.history_bytes; connections = s.connections; passdb = s.passdb; userdb = s.userdb } };
+
+    ghost invariant = { λ s. AreInRange (record { server_pid = s.server_pid; host = s.host; mechanisms = s.mechanisms; username_chars = s.username_chars; username_lower = s.username_lower; master_separator = s.master_separator; failure_delay = s.failure_delay; cache_size = s.cache_size; cache_ttl = s.cache_ttl; cache_negative_ttl = s.cache_negative_ttl; query_limit = s.query_limit; workers = s.workers; worker_command = s.worker_command; client_socket = s.client_socket; master_socket = s.master_socket; history_entries = s.history_entries; history_bytes = s.history_bytes; connections = s.connections; passdb = s.passdb; userdb = s.userdb }) };
+}
+
+impl Settings {
+    /// Equal settings.
+    pub fn copy(&self, alloc: Global) -> Result<Settings, AllocError>
+        ensures { IfOk result (λ settings. settings ≡ self.now) }
+    {
+        Ok(Settings {
+            server_pid: self.server_pid,
+            host: self.host.copy(alloc)?,
+            mechanisms: self.mechanisms.copy(alloc)?,
+            username_chars: self.username_chars.copy(alloc)?,
+            username_lower: self.username_lower,
+            master_separator: self.master_separator,
+            failure_delay: self.failure_delay,
+            cache_size: self.cache_size,
+            cache_ttl: self.cache_ttl,
+            cache_negative_ttl: self.cache_negative_ttl,
+            query_limit: self.query_limit,
+            workers: self.workers,
+            worker_command: self.worker_command.copy(alloc)?,
+            client_socket: self.client_socket.copy(alloc)?,
+            master_socket: self.master_socket.copy(alloc)?,
+            history_entries: self.history_entries,
+            history_bytes: self.history_bytes,
+            connections: self.connections,
+            passdb: self.passdb.copy(alloc)?,
+            userdb: self.userdb.copy(alloc)?,
+        })
+    }
 }
 
 /// A run is over once so many connections of each kind were opened and none is open.

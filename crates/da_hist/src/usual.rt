@@ -1,6 +1,6 @@
 // The settings of a server whose operator sets nothing.
 
-ghost use Rattle.std.specs.Prelude.{◌≡◌, IfOk};
+ghost use Rattle.std.specs.Prelude.{◌≡◌, ◌≤◌, IfOk};
 ghost use Rattle.da_hist.specs.UsualSettings.{usual_passdb, usual_settings, usual_username_chars};
 
 use crate::lists::{Mechs, Passdbs, Texts, Userdbs};
@@ -44,6 +44,7 @@ impl Settings {
     /// The settings of a server whose operator sets nothing but how long failures are held back, in milliseconds.
     #[tactic(auto, unfolding(crate::specs::UsualSettings::usual_settings))]
     pub fn usual(alloc: Global, failure_delay: u64) -> Result<Settings, AllocError>
+        requires { failure_delay ≤ 60000 }
         ensures { IfOk result (λ settings. settings ≡ usual_settings failure_delay) }
     {
         Ok(Settings {
