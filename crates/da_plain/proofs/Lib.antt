@@ -1,0 +1,2 @@
+pub mod PlainMessages
+pub mod LoginMessages
