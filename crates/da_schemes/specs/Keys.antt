@@ -1,5 +1,5 @@
 -- The keys of SCRAM-SHA-256 (RFC 5802, section 3; RFC 7677).
-use Rattle.std.specs.Prelude.{◌<◌, ◌≤◌, ℕ, ◌&&◌, List, [], ◌∷◌, length, Option, Some, None, option_and_then, if◌then◌else◌, nat_le, codes}
+use Rattle.std.specs.Prelude.{◌≡◌, ◌<◌, ◌≤◌, ℕ, ◌&&◌, List, [], ◌∷◌, length, Option, Some, None, option_and_then, if◌then◌else◌, nat_le, codes}
 use Rattle.sha2.specs.Sha256.{sha256}
 use Rattle.da_base.specs.Words.{Bytes, pieces, number_of, from_base64}
 use Rattle.da_schemes.specs.Hmac.{hmac_sha256, hi}
@@ -48,3 +48,8 @@ keys_in_pieces _ = None
 -- the keys that a text spells, with commas between its four parts
 abbrev pub keys_spelled : Bytes → Option ScramKeys
 keys_spelled text = keys_in_pieces (pieces 44 text)
+
+-- there are keys, of this salt and so many rounds
+abbrev pub HaveSalt : Option ScramKeys → Bytes → ℕ → Type 0
+HaveSalt None salt rounds = ⊥
+HaveSalt (Some keys) salt rounds = (keys.salt ≡ salt) × (keys.rounds ≡ rounds)

@@ -52,7 +52,7 @@ pub(crate) fn sha512_of(message: &[u8], salt: &[u8]) -> [u8; 64]
 }
 
 /// Whether two secrets are equal. It goes over all bytes, so that its time doesn't tell where they differ.
-pub(crate) fn same_bytes(one: &[u8], other: &[u8]) -> bool
+pub fn same_bytes(one: &[u8], other: &[u8]) -> bool
     ensures { result ≡ bytes_eq one.now other.now }
 {
     if one.len() != other.len() {

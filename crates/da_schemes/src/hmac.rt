@@ -37,8 +37,8 @@ fn xor_each(block: &[u8; BLOCK], pad: u8) -> [u8; BLOCK]
     out
 }
 
-// Takes the bytes into the sum by XOR.
-fn xor_into(sum: &mut [u8; 32], bytes: &[u8; 32])
+/// Takes the bytes into the sum by XOR.
+pub fn xor_into(sum: &mut [u8; 32], bytes: &[u8; 32])
     ensures { sum.new ≡ words.xor_bytes sum.old bytes.now }
 {
     for i in 0..32 {

@@ -4,14 +4,15 @@
 #![tactic(auto)]
 
 pub use checked::Checked;
+pub use digest::same_bytes;
 pub use fault::SchemeFault;
-pub use hmac::{hi, hmac_md5, hmac_sha256};
+pub use hmac::{hi, hmac_md5, hmac_sha256, xor_into};
 pub use keys::ScramKeys;
 pub use laws::{a_made_password_is_read_and_matches, a_name_is_read_in_any_case};
 pub use making::make;
 pub use octets::Octets;
 pub use scheme::Scheme;
-pub use stored::{Stored, scram_keys};
+pub use stored::{Stored, scram_keys, scram_salt};
 
 mod checked;
 mod digest;

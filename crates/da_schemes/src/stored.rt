@@ -1,7 +1,8 @@
 // Stored passwords.
-ghost use Rattle.std.specs.Prelude.{◌≡◌, ◌↔◌, ◌||◌, IfOk, IsSome, IsTrue};
+ghost use Rattle.std.specs.Prelude.{◌≡◌, ◌↔◌, ◌||◌, None, IfOk, IsSome, IsTrue, MatchOption};
 ghost use Rattle.std.specs.Option.{option_copied};
 ghost use Rattle.da_schemes.specs.Scheme.{is_plaintext_scheme, is_scram_scheme};
+ghost use Rattle.da_schemes.specs.Keys.{HaveSalt};
 ghost use Rattle.da_schemes.specs.Stored as words;
 ghost use Rattle.da_schemes.specs.Stored.{IsRead, IsReadFrom, stored_under, matches, plaintext_of};
 
@@ -132,5 +133,17 @@ pub fn scram_keys(
         Secret::Plaintext(password) => Ok(Some(keys_of(alloc, password.bytes(), salt, ROUNDS)?)),
         Secret::Digest(_, _) => Ok(None),
         Secret::Keys(keys) => Ok(Some(keys.copy(alloc)?)),
+    }
+}
+
+/// The salt and the rounds of the keys that `scram_keys` gives, told without a round being done. `None` exactly where it
+/// gives none.
+pub fn scram_salt<'a>(stored: &'a Stored, salt: &'a [u8; 16]) -> Option<(&'a [u8], u32)>
+    ensures { MatchOption result (words.scram_keys salt.now stored.now ≡ None) (λ p. HaveSalt (words.scram_keys salt.now stored.now) p.0.now p.1) }
+{
+    match &stored.secret {
+        Secret::Plaintext(_) => Some((salt, ROUNDS)),
+        Secret::Digest(_, _) => None,
+        Secret::Keys(keys) => Some((keys.salt.bytes(), keys.rounds)),
     }
 }

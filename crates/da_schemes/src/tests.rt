@@ -1,7 +1,7 @@
 // Outside vectors: RFC 2202 and 4231 (HMAC), RFC 8018's function with SHA-256, RFC 7677's password, and digests of `abc`.
 use crate::{
     Checked, Octets, Scheme, SchemeFault, ScramKeys, Stored, hi, hmac_md5, hmac_sha256, make,
-    scram_keys,
+    scram_keys, scram_salt,
 };
 use std::alloc::{AllocError, Global};
 use std::test::Fail;
@@ -328,6 +328,13 @@ fn keys_are_made_of_a_plaintext_alone(rt: HostRuntime) -> Result<(), Fail> {
     assert!(rt; keys.stored == PENCIL_STORED);
     assert!(rt; keys.server == PENCIL_SERVER);
     assert!(rt; keys_under(rt.alloc(), b"{SHA}qZk+NkcGgWq6PiVxeFDCbJzQ2J0=", &SALT)?.is_none());
+    Ok(())
+}
+
+#[test]
+fn a_salt_is_told_with_its_rounds(rt: HostRuntime) -> Result<(), Fail> {
+    let stored = Stored::read(rt.alloc(), Scheme::Plain, b"pencil")?;
+    assert!(rt; scram_salt(&stored, &PENCIL_SALT) == Some((PENCIL_SALT.as_slice(), 4096)));
     Ok(())
 }
 
