@@ -63,9 +63,12 @@ abbrev pub response_says : Bytes → Bytes → Option Bytes → Said
 response_says challenge message None = Need (response_name message) [] None
 response_says challenge message (Some plain) = Proof (bytes_eq (response_digits message) (right_digits challenge plain)) None
 
+abbrev pub message_says : Bytes → Bytes → Option Bytes → Said
+message_says challenge message plain = if is_response message then response_says challenge message plain else Bad
+
 abbrev pub messages_say : Bytes → List Bytes → Option Bytes → Said
 messages_say challenge [] plain = Challenge challenge
-messages_say challenge (message ∷ []) plain = if is_response message then response_says challenge message plain else Bad
+messages_say challenge (message ∷ []) plain = message_says challenge message plain
 messages_say challenge (message ∷ more ∷ rest) plain = Bad
 
 abbrev pub credentials_say : Bytes → List Bytes → Option Bytes → Said

@@ -1,1 +1,2 @@
 pub mod Cram
+pub mod Example
