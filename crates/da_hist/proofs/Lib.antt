@@ -14,3 +14,8 @@ pub mod HitsLaw
 pub mod LegalLaw
 pub mod GrantStands
 pub mod ReplyDue
+pub mod Rows
+pub mod EntryParts
+pub mod Standing
+pub mod OpenQueries
+pub mod Noted

@@ -20,6 +20,8 @@ pub mod FirstLoginRun
 pub mod Served
 pub mod ReplyLaws
 pub mod StageLaws
+pub mod StandingLaws
+pub mod QueryLaws
 pub mod GrantLaws
 pub mod SuccessLaws
 pub mod HitLaws

@@ -1,15 +1,16 @@
 -- Laws on final replies.
-use Rattle.std.specs.Prelude.{◌≡◌, ◌≤◌, ℕ, true, false, ◌&&◌, not, List, [], ◌∷◌, filter, Some, ◌==◌, nat_le, is_some}
-use Rattle.std.specs.List.{list_any, list_all}
+use Rattle.std.specs.Prelude.{◌≡◌, ◌≤◌, ℕ, true, false, List, [], ◌∷◌, Some, ◌==◌, nat_le, is_some}
+use Rattle.std.specs.List.{list_any}
 use Rattle.da_base.specs.Words.{nth, passes_option, count_where}
 use Rattle.da_hist.specs.declared.input.Entry.{Entry}
 use Rattle.da_hist.specs.declared.settings.Settings.{Settings}
+use Rattle.da_hist.specs.declared.state.Connection.{Connection}
 use Rattle.da_hist.specs.declared.state.Decision.{Decision}
 use Rattle.da_hist.specs.declared.state.Request.{Request}
 use Rattle.da_hist.specs.declared.state.State.{State}
 use Rattle.da_hist.specs.Requests.{is_due, decision, due_moment, final_line}
 use Rattle.da_hist.specs.History.{state}
-use Rattle.da_hist.specs.Effects.{effects, final_replies, all_final_replies, reply_lines}
+use Rattle.da_hist.specs.Effects.{effects, final_replies, all_final_replies, reply_lines, entry_lines}
 
 -- a request has at most one final reply
 abbrev pub RepliesAtMostOnce : Type 0
@@ -30,8 +31,14 @@ RepliesAreDue =
 -- what is decided by its stage is noted as decided, unless it is cancelled
 abbrev pub DecisionsAreNoted : Type 0
 DecisionsAreNoted =
-    (settings : Settings) (h : List Entry) →
-    list_all (λ r. r.is_cancelled) (filter (λ r. not (is_some r.decided) && is_some (decision settings r)) (state settings h).requests) ≡ true
+    (settings : Settings) (h : List Entry) (n : ℕ) (r : Request) → nth (state settings h).requests n ≡ Some r →
+    is_some (decision settings r) ≡ true → r.is_cancelled ≡ false → is_some r.decided ≡ true
+
+-- a connection that has ended gets no line
+abbrev pub EndedIsSilent : Type 0
+EndedIsSilent =
+    (settings : Settings) (e : Entry) (g : List Entry) (conn : ℕ) (c : Connection) → nth (state settings g).connections conn ≡ Some c → c.is_open ≡ false →
+    list_any (λ l. l.0 == conn) (entry_lines settings e g) ≡ false
 
 -- a final reply is one line, to the connection of its request
 abbrev pub RepliesAreLines : Type 0

@@ -1,11 +1,13 @@
 // Laws of the sequential server: each is a contract, and its function does nothing.
 
-ghost use Rattle.da_hist.specs.ReplyLaws.{RepliesAtMostOnce, NothingDueIsLeft, RepliesAreLines, RepliesAreDue};
+ghost use Rattle.da_hist.specs.ReplyLaws.{RepliesAtMostOnce, NothingDueIsLeft, RepliesAreLines, RepliesAreDue, DecisionsAreNoted};
 ghost use Rattle.da_hist.specs.StageLaws.{StageIsOwn};
 ghost use Rattle.da_hist.specs.GrantLaws.{GrantedAtMostOnce, UserWasGranted, GrantsStand};
 ghost use Rattle.da_hist.specs.SuccessLaws.{OkHasItsAnswer};
 ghost use Rattle.da_hist.specs.HitLaws.{HitsAreUnique, HitsAreHits};
+ghost use Rattle.da_hist.specs.QueryLaws.{OpenQueriesAreAsked};
 ghost use Rattle.da_hist.specs.PlayLaws.{PlaysAreLegal, LegalIsPlayed};
+ghost use Rattle.da_hist.specs.StandingLaws.{WhatIsSettledStands, UsedStaysUsed, DecisionsStand};
 
 /// A request has at most one final reply, whatever its history.
 pub fn replies_at_most_once()
@@ -70,4 +72,29 @@ pub fn grants_stand()
 /// A final reply is one of a request that is decided by its stage, and whose reply is due, never before.
 pub fn replies_are_due()
     ensures { RepliesAreDue }
+{}
+
+/// What is ended, cancelled, decided, replied, granted, taken or answered stays so, whatever comes later.
+pub fn what_is_settled_stands()
+    ensures { WhatIsSettledStands }
+{}
+
+/// A login that served a request of a master is used for ever.
+pub fn used_stays_used()
+    ensures { UsedStaysUsed }
+{}
+
+/// The decision of a request that is decided doesn't change.
+pub fn decisions_stand()
+    ensures { DecisionsStand }
+{}
+
+/// A query without an answer is what its request asks, and that request is undecided, or was cancelled before.
+pub fn open_queries_are_asked()
+    ensures { OpenQueriesAreAsked }
+{}
+
+/// What its stage decides is noted as decided, unless it is cancelled.
+pub fn decisions_are_noted()
+    ensures { DecisionsAreNoted }
 {}

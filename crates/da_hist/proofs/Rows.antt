@@ -1,0 +1,124 @@
+-- Rows of tables, counted from 1: what a changed, mapped or longer table has at a place.
+use Rattle.std.proofs.Common.{◌≡◌, ◌≢◌, ◌⊎◌, inl, inr, refl, sym, ◌∙◌, ap, subst, Option, Some, None, List, [], ◌∷◌, ◌++◌, ℕ, zero, suc, Bool, true, false, map, length, slice_get, option_map, cond, ◌==◌, eq-eqb, true≢false}
+use Rattle.std.proofs.lemmas.Bool.{eqb-true}
+use Rattle.std.proofs.lemmas.Option.{none-some, same_Some}
+use Rattle.da_base.specs.Words.{nth, changed_at, changed_nth, passes_option, number_where, one_further}
+
+-- equal or not
+pub same_or_not : (m n : ℕ) → (m ≡ n) ⊎ (m ≢ n)
+same_or_not m n = go (m == n) refl
+  where
+    go : (b : Bool) → (m == n) ≡ b → (m ≡ n) ⊎ (m ≢ n)
+    go true e = inl (eqb-true m n e)
+    go false e = inr (λ d. true≢false (sym (eq-eqb m n d) ∙ e))
+
+-- what passes a test is there
+pub passing : {A : Type 0} (test : A → Bool) (o : Option A) → passes_option test o ≡ true → (x : A) × (o ≡ Some x) × (test x ≡ true)
+passing test None e = absurd (true≢false (sym e))
+passing test (Some x) e = (x, refl, e)
+
+pub mapped_value : {A B : Type 0} (f : A → B) (o : Option A) (y : B) → option_map f o ≡ Some y → (x : A) × (o ≡ Some x) × (y ≡ f x)
+mapped_value f None y e = absurd (none-some y e)
+mapped_value f (Some x) y e = (x, refl, sym (same_Some (f x) y e))
+
+slice-map : {A B : Type 0} (f : A → B) (xs : List A) (n : ℕ) → slice_get (map f xs) n ≡ option_map f (slice_get xs n)
+slice-map f [] n = refl
+slice-map f (x ∷ xs) zero = refl
+slice-map f (x ∷ xs) (suc n) = slice-map f xs n
+
+pub nth-map : {A B : Type 0} (f : A → B) (xs : List A) (n : ℕ) → nth (map f xs) n ≡ option_map f (nth xs n)
+nth-map f xs zero = refl
+nth-map f xs (suc n) = slice-map f xs n
+
+slice-changed : {A : Type 0} (f : A → A) (xs : List A) (n : ℕ) → slice_get (changed_at f xs n) n ≡ option_map f (slice_get xs n)
+slice-changed f [] n = refl
+slice-changed f (x ∷ xs) zero = refl
+slice-changed f (x ∷ xs) (suc n) = slice-changed f xs n
+
+pub nth-changed : {A : Type 0} (f : A → A) (xs : List A) (n : ℕ) → nth (changed_nth f xs n) n ≡ option_map f (nth xs n)
+nth-changed f xs zero = refl
+nth-changed f xs (suc n) = slice-changed f xs n
+
+slice-other : {A : Type 0} (f : A → A) (xs : List A) (m n : ℕ) → n ≢ m → slice_get (changed_at f xs m) n ≡ slice_get xs n
+slice-other f [] m n h = refl
+slice-other f (x ∷ xs) zero zero h = absurd (h refl)
+slice-other f (x ∷ xs) zero (suc n) h = refl
+slice-other f (x ∷ xs) (suc m) zero h = refl
+slice-other f (x ∷ xs) (suc m) (suc n) h = slice-other f xs m n (λ e. h (ap suc e))
+
+pub nth-unchanged : {A : Type 0} (f : A → A) (xs : List A) (m n : ℕ) → n ≢ m → nth (changed_nth f xs m) n ≡ nth xs n
+nth-unchanged f xs zero n h = refl
+nth-unchanged f xs (suc m) zero h = refl
+nth-unchanged f xs (suc m) (suc n) h = slice-other f xs m n (λ e. h (ap suc e))
+
+slice-appended : {A : Type 0} (xs : List A) (x y : A) (n : ℕ) → slice_get (xs ++ x ∷ []) n ≡ Some y → ((n ≡ length xs) × (y ≡ x)) ⊎ (slice_get xs n ≡ Some y)
+slice-appended [] x y zero e = inl (refl, sym (same_Some x y e))
+slice-appended [] x y (suc n) e = absurd (none-some y e)
+slice-appended (z ∷ xs) x y zero e = inr e
+slice-appended (z ∷ xs) x y (suc n) e = go (slice-appended xs x y n e)
+  where
+    go : ((n ≡ length xs) × (y ≡ x)) ⊎ (slice_get xs n ≡ Some y) → ((suc n ≡ suc (length xs)) × (y ≡ x)) ⊎ (slice_get xs n ≡ Some y)
+    go (inl (e, d)) = inl (ap suc e, d)
+    go (inr e) = inr e
+
+-- a row of a table with one row more is the new one or one of the old
+pub of_appended : {A : Type 0} (xs : List A) (x y : A) (n : ℕ) → nth (xs ++ x ∷ []) n ≡ Some y → ((n ≡ suc (length xs)) × (y ≡ x)) ⊎ (nth xs n ≡ Some y)
+of_appended xs x y zero e = absurd (none-some y e)
+of_appended xs x y (suc n) e = go (slice-appended xs x y n e)
+  where
+    go : ((n ≡ length xs) × (y ≡ x)) ⊎ (slice_get xs n ≡ Some y) → ((suc n ≡ suc (length xs)) × (y ≡ x)) ⊎ (slice_get xs n ≡ Some y)
+    go (inl (e, d)) = inl (ap suc e, d)
+    go (inr e) = inr e
+
+slice-last : {A : Type 0} (xs : List A) (x : A) → slice_get (xs ++ x ∷ []) (length xs) ≡ Some x
+slice-last [] x = refl
+slice-last (y ∷ xs) x = slice-last xs x
+
+pub nth-last : {A : Type 0} (xs : List A) (x : A) → nth (xs ++ x ∷ []) (suc (length xs)) ≡ Some x
+nth-last xs x = slice-last xs x
+
+slice-before : {A : Type 0} (xs ys : List A) (y : A) (n : ℕ) → slice_get xs n ≡ Some y → slice_get (xs ++ ys) n ≡ Some y
+slice-before [] ys y n e = absurd (none-some y e)
+slice-before (x ∷ xs) ys y zero e = e
+slice-before (x ∷ xs) ys y (suc n) e = slice-before xs ys y n e
+
+-- a row stays where it is when a table gets longer
+pub nth-before : {A : Type 0} (xs ys : List A) (y : A) (n : ℕ) → nth xs n ≡ Some y → nth (xs ++ ys) n ≡ Some y
+nth-before xs ys y zero e = absurd (none-some y e)
+nth-before xs ys y (suc n) e = slice-before xs ys y n e
+
+-- a row of a changed table is the changed one or another
+pub of_changed : {A : Type 0} (f : A → A) (xs : List A) (m n : ℕ) (y : A) → nth (changed_nth f xs m) n ≡ Some y →
+    ((n ≡ m) × (x : A) × (nth xs m ≡ Some x) × (y ≡ f x)) ⊎ ((n ≢ m) × (nth xs n ≡ Some y))
+of_changed f xs m n y e = go (same_or_not n m)
+  where
+    go : (n ≡ m) ⊎ (n ≢ m) → ((n ≡ m) × (x : _) × (nth xs m ≡ Some x) × (y ≡ f x)) ⊎ ((n ≢ m) × (nth xs n ≡ Some y))
+    go (inl d) =
+        let found : (x : _) × (nth xs m ≡ Some x) × (y ≡ f x) = mapped_value f (nth xs m) y (sym (nth-changed f xs m) ∙ subst (λ k. nth (changed_nth f xs m) k ≡ Some y) d e) in
+        inl (d, found.0, found.1, found.2)
+    go (inr d) = inr (d, sym (nth-unchanged f xs m n d) ∙ e)
+
+-- a row of a mapped table
+pub of_mapped : {A B : Type 0} (f : A → B) (xs : List A) (n : ℕ) (y : B) → nth (map f xs) n ≡ Some y → (x : A) × (nth xs n ≡ Some x) × (y ≡ f x)
+of_mapped f xs n y e = mapped_value f (nth xs n) y (sym (nth-map f xs n) ∙ e)
+
+slice-past : {A : Type 0} (xs : List A) (y : A) → slice_get xs (length xs) ≡ Some y → ⊥
+slice-past [] y e = none-some y e
+slice-past (x ∷ xs) y e = slice-past xs y e
+
+-- a table has no row past its end
+pub nth-past : {A : Type 0} (xs : List A) (y : A) → nth xs (suc (length xs)) ≡ Some y → ⊥
+nth-past xs y e = slice-past xs y e
+
+-- the first row that passes a test passes it
+pub first_passes : {A : Type 0} (test : A → Bool) (xs : List A) (x : A) → nth xs (number_where test xs) ≡ Some x → test x ≡ true
+first_passes test [] x e = absurd (none-some x e)
+first_passes {A} test (y ∷ xs) x e = go (first_passes test xs x) (test y) refl
+  where
+    later : (n : ℕ) → nth (y ∷ xs) (one_further n) ≡ Some x → nth xs n ≡ Some x
+    later zero d = absurd (none-some x d)
+    later (suc n) d = d
+
+    go : (nth xs (number_where test xs) ≡ Some x → test x ≡ true) → (b : Bool) → test y ≡ b → test x ≡ true
+    go further true d = subst (λ z. test z ≡ true) (same_Some y x (sym (ap (λ (b : Bool). nth (y ∷ xs) (cond b 1 (one_further (number_where test xs)))) d) ∙ e)) d
+    go further false d = further (later (number_where test xs) (sym (ap (λ (b : Bool). nth (y ∷ xs) (cond b 1 (one_further (number_where test xs)))) d) ∙ e))
