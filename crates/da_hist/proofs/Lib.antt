@@ -19,3 +19,4 @@ pub mod EntryParts
 pub mod Standing
 pub mod OpenQueries
 pub mod Noted
+pub mod Silent

@@ -76,7 +76,7 @@ times-numbers_where test (suc n) rs = ap (λ m. times m (numbers_where test 1 rs
     one_more : suc n ≡ n + 1
     one_more = omega arith
 
-times-due : (settings : Settings) (st : State) (moment n : ℕ) → times n (due_requests settings st moment) ≡ option_or_else (nth st.requests n) 0 (test_of (is_due settings moment))
+pub times-due : (settings : Settings) (st : State) (moment n : ℕ) → times n (due_requests settings st moment) ≡ option_or_else (nth st.requests n) 0 (test_of (is_due settings moment))
 unfolding due_requests
 times-due settings st moment n = times-by_due settings st n (numbers_where (is_due settings moment) 1 st.requests) ∙ times-numbers_where (is_due settings moment) n st.requests
 

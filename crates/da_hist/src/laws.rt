@@ -1,6 +1,6 @@
 // Laws of the sequential server: each is a contract, and its function does nothing.
 
-ghost use Rattle.da_hist.specs.ReplyLaws.{RepliesAtMostOnce, NothingDueIsLeft, RepliesAreLines, RepliesAreDue, DecisionsAreNoted};
+ghost use Rattle.da_hist.specs.ReplyLaws.{RepliesAtMostOnce, NothingDueIsLeft, RepliesAreLines, RepliesAreDue, DecisionsAreNoted, EndedIsSilent};
 ghost use Rattle.da_hist.specs.StageLaws.{StageIsOwn};
 ghost use Rattle.da_hist.specs.GrantLaws.{GrantedAtMostOnce, UserWasGranted, GrantsStand};
 ghost use Rattle.da_hist.specs.SuccessLaws.{OkHasItsAnswer};
@@ -97,4 +97,9 @@ pub fn open_queries_are_asked()
 /// What its stage decides is noted as decided, unless it is cancelled.
 pub fn decisions_are_noted()
     ensures { DecisionsAreNoted }
+{}
+
+/// A connection that has ended gets no line.
+pub fn ended_is_silent()
+    ensures { EndedIsSilent }
 {}
