@@ -20,3 +20,5 @@ pub mod Standing
 pub mod OpenQueries
 pub mod Noted
 pub mod Silent
+pub mod Keys
+pub mod KeysLaw

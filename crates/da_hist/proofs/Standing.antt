@@ -179,7 +179,7 @@ requests_stand = RowsStand RequestStands
 of_undecided : (rs : List Request) (n : ℕ) (r : Request) → IsUndecidedAt rs n → nth rs n ≡ Some r → is_undecided r ≡ true
 of_undecided rs n r u e = sym (ap (passes_option is_undecided) e) ∙ u
 
-all_same : (st : State) → TablesStand st st
+pub all_same : (st : State) → TablesStand st st
 all_same st = record { connections = same_rows ConnectionStands same_connection connection_later st.connections; requests = same_rows RequestStands same_request request_later st.requests; queries = same_rows QueryStands same_query query_later st.queries }
 
 pub tables_later : (a b c : State) → TablesStand a b → TablesStand b c → TablesStand a c
@@ -282,7 +282,7 @@ module _ (settings : Settings) (moment : ℕ) (origin before : State) (entered :
     kept = λ st m query given a l run is k q. record { connections = q.connections; requests = q.requests; queries = q.queries };
   }
 
-due_stand : (settings : Settings) (moment : ℕ) (st : State) → TablesStand st (with_due_replied settings moment st)
+pub due_stand : (settings : Settings) (moment : ℕ) (st : State) → TablesStand st (with_due_replied settings moment st)
 unfolding with_due_replied
 due_stand settings moment st = with_requests st st (all_same st) (map (replied_if_due settings moment) st.requests)
     (mapped_rows RequestStands same_request request_later (replied_if_due settings moment) (reply_stands settings moment) st.requests)

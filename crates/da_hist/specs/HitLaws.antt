@@ -1,10 +1,16 @@
 -- Laws on the cache.
-use Rattle.std.specs.Prelude.{◌≡◌, ◌≤◌, ℕ, List, length}
+use Rattle.std.specs.Prelude.{◌≡◌, ◌<◌, ◌≤◌, ℕ, true, List, length, Some}
+use Rattle.da_base.specs.Words.{nth, count_where}
+use Rattle.da_cache.specs.Keys.{same_key, has_key}
+use Rattle.da_cache.specs.declared.key.Key.{Key}
+use Rattle.da_fields.specs.declared.answer.Answer.{Answer}
 use Rattle.da_hist.specs.declared.input.Entry.{Entry}
 use Rattle.da_hist.specs.declared.settings.Settings.{Settings}
+use Rattle.da_hist.specs.declared.state.Asked.{Asked}
 use Rattle.da_hist.specs.declared.state.Request.{Request}
 use Rattle.da_hist.specs.declared.state.State.{State}
-use Rattle.da_hist.specs.Hits.{AreHits, hits_from, database_count}
+use Rattle.da_hist.specs.Queries.{life}
+use Rattle.da_hist.specs.Hits.{AreHits, hits_from, database_count, newest}
 use Rattle.da_hist.specs.History.{state}
 use Rattle.da_hist.specs.Legal.{IsLegal}
 
@@ -20,6 +26,22 @@ HitsAreHits =
     (settings : Settings) (moment : ℕ) (st : State) (r : Request) →
     AreHits settings moment st r (hits_from (database_count settings) settings moment st r)
 
--- the keys fit the cache
+-- the newest answer of a key is there, and its life isn't 0
+pub record HasAnswer (settings : Settings) (st : State) (k : Key) : Type 0 where
+  pub number : ℕ
+  pub is_newest : newest st k ≡ Some number
+  pub query : Asked
+  pub stands : nth st.queries number ≡ Some query
+  pub answer : Answer
+  pub moment : ℕ
+  pub is_recorded : query.answer ≡ Some (answer, moment)
+  pub lives : 0 < life settings answer
+
+-- the keys fit the cache, no key is there twice, and each has an answer that may be repeated for some time
+pub record KeysAreFit (settings : Settings) (st : State) : Type 0 where
+  pub fit : length st.keys ≤ settings.cache_size
+  pub are_distinct : (k : Key) → count_where (same_key k) st.keys ≤ 1
+  pub have_answers : (k : Key) → has_key k st.keys ≡ true → HasAnswer settings st k
+
 abbrev pub KeysFit : Type 0
-KeysFit = (settings : Settings) (h : List Entry) → IsLegal settings h → length (state settings h).keys ≤ settings.cache_size
+KeysFit = (settings : Settings) (h : List Entry) → IsLegal settings h → KeysAreFit settings (state settings h)

@@ -4,7 +4,7 @@ ghost use Rattle.da_hist.specs.ReplyLaws.{RepliesAtMostOnce, NothingDueIsLeft, R
 ghost use Rattle.da_hist.specs.StageLaws.{StageIsOwn};
 ghost use Rattle.da_hist.specs.GrantLaws.{GrantedAtMostOnce, UserWasGranted, GrantsStand};
 ghost use Rattle.da_hist.specs.SuccessLaws.{OkHasItsAnswer};
-ghost use Rattle.da_hist.specs.HitLaws.{HitsAreUnique, HitsAreHits};
+ghost use Rattle.da_hist.specs.HitLaws.{HitsAreUnique, HitsAreHits, KeysFit};
 ghost use Rattle.da_hist.specs.QueryLaws.{OpenQueriesAreAsked};
 ghost use Rattle.da_hist.specs.PlayLaws.{PlaysAreLegal, LegalIsPlayed};
 ghost use Rattle.da_hist.specs.StandingLaws.{WhatIsSettledStands, UsedStaysUsed, DecisionsStand};
@@ -102,4 +102,9 @@ pub fn decisions_are_noted()
 /// A connection that has ended gets no line.
 pub fn ended_is_silent()
     ensures { EndedIsSilent }
+{}
+
+/// The keys fit the cache, no key is there twice, and each has an answer that may be repeated for some time.
+pub fn keys_fit()
+    ensures { KeysFit }
 {}
