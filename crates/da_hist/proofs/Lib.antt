@@ -22,3 +22,4 @@ pub mod Noted
 pub mod Silent
 pub mod Keys
 pub mod KeysLaw
+pub mod CheckLaw

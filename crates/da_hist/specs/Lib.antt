@@ -22,6 +22,7 @@ pub mod ReplyLaws
 pub mod StageLaws
 pub mod StandingLaws
 pub mod QueryLaws
+pub mod CheckLaws
 pub mod GrantLaws
 pub mod SuccessLaws
 pub mod HitLaws

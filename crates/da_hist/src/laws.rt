@@ -5,6 +5,7 @@ ghost use Rattle.da_hist.specs.StageLaws.{StageIsOwn};
 ghost use Rattle.da_hist.specs.GrantLaws.{GrantedAtMostOnce, UserWasGranted, GrantsStand};
 ghost use Rattle.da_hist.specs.SuccessLaws.{OkHasItsAnswer};
 ghost use Rattle.da_hist.specs.HitLaws.{HitsAreUnique, HitsAreHits, KeysFit};
+ghost use Rattle.da_hist.specs.CheckLaws.{ChecksAreTests, HintsAreCompared};
 ghost use Rattle.da_hist.specs.QueryLaws.{OpenQueriesAreAsked};
 ghost use Rattle.da_hist.specs.PlayLaws.{PlaysAreLegal, LegalIsPlayed};
 ghost use Rattle.da_hist.specs.StandingLaws.{WhatIsSettledStands, UsedStaysUsed, DecisionsStand};
@@ -107,4 +108,14 @@ pub fn ended_is_silent()
 /// The keys fit the cache, no key is there twice, and each has an answer that may be repeated for some time.
 pub fn keys_fit()
     ensures { KeysFit }
+{}
+
+/// What a use of an answer compares is what it tests.
+pub fn checks_are_tests()
+    ensures { ChecksAreTests }
+{}
+
+/// What a hint names is compared by the entry that it is for, which isn't refused.
+pub fn hints_are_compared()
+    ensures { HintsAreCompared }
 {}

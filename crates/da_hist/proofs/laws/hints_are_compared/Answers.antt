@@ -1,0 +1,5 @@
+use Rattle.da_hist.proofs.CheckLaw.{hints_are_compared}
+use Rattle.da_hist.proofs.laws.hints_are_compared.Goals as goal
+
+pub returns : goal.returns
+returns c = hints_are_compared
