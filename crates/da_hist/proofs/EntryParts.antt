@@ -136,7 +136,7 @@ pub record HeardParts (settings : Settings) (moment : ℕ) (before : State) (ent
 pub record MovedParts (settings : Settings) (moment : ℕ) (before : State) (entered : Input) (hits : List ℕ) (Q : State → Option ℕ → List ℕ → Type 0) (R : State → Option ℕ → Type 0) : Type 0 where
   pub hit : (st : State) (mover number : ℕ) (done rest : List ℕ) (a : Asked) (p : Answer × ℕ) → nth st.queries number ≡ Some a → a.answer ≡ Some p →
       done ++ number ∷ rest ≡ hits → IsUndecidedAt st.requests mover → Q st (Some mover) done → Q (hit_with settings mover number a p.0 st) (Some mover) (done ++ number ∷ [])
-  pub misses : (st : State) (mover number : ℕ) (done : List ℕ) → answer_of st number ≡ None → Q st (Some mover) done → Q st (Some mover) (done ++ number ∷ [])
+  pub misses : (st : State) (mover number : ℕ) (done rest : List ℕ) → answer_of st number ≡ None → done ++ number ∷ rest ≡ hits → Q st (Some mover) done → Q st (Some mover) (done ++ number ∷ [])
   pub rests : (st : State) → Q st None [] → R st None
   pub awaits : (st : State) (n : ℕ) (r : Request) (text : Bytes) → nth st.requests n ≡ Some r → is_undecided r ≡ true → request_stage settings r ≡ Awaits text →
       Q st (Some n) hits → R st (Some n)
@@ -275,11 +275,11 @@ module _ (settings : Settings) (moment : ℕ) (before : State) (entered : Input)
 
   sound_hit : (mover number : ℕ) (done rest : List ℕ) (st : State) (o : Option Asked) → nth st.queries number ≡ o → done ++ number ∷ rest ≡ hits → IsMoved mover done st →
       IsMoved mover (done ++ number ∷ []) (hit_on settings mover number o st)
-  sound_hit mover number done rest st None is w h = record { fact = k.misses st mover number done (ap answer_in is) h.fact; undecided = h.undecided }
+  sound_hit mover number done rest st None is w h = record { fact = k.misses st mover number done rest (ap answer_in is) w h.fact; undecided = h.undecided }
   sound_hit mover number done rest st (Some a) is w h = go a.answer refl
     where
       go : (o : Option (Answer × ℕ)) → a.answer ≡ o → IsMoved mover (done ++ number ∷ []) (option_or_else o st (λ p. hit_with settings mover number a p.0 st))
-      go None e = record { fact = k.misses st mover number done (no_answer st number a is e) h.fact; undecided = h.undecided }
+      go None e = record { fact = k.misses st mover number done rest (no_answer st number a is e) w h.fact; undecided = h.undecided }
       go (Some p) e = record {
         fact = k.hit st mover number done rest a p is e w h.undecided h.fact;
         undecided = still_undecided (with_answer a.question.db p.0) (λ r. refl) st.requests mover h.undecided;

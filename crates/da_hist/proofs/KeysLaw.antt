@@ -106,7 +106,7 @@ AllCached st [] = Unit {0}
 AllCached st (n ∷ ns) = IsCached st n × AllCached st ns
 
 -- the newest answer to a key has this key
-newest_has : (st : State) (k : Key) (ns : List ℕ) (n : ℕ) → newest_among st k ns ≡ Some n → (a : Asked) × (nth st.queries n ≡ Some a) × (same_key k (key_of a.question) ≡ true)
+pub newest_has : (st : State) (k : Key) (ns : List ℕ) (n : ℕ) → newest_among st k ns ≡ Some n → (a : Asked) × (nth st.queries n ≡ Some a) × (same_key k (key_of a.question) ≡ true)
 newest_has st k [] n e = absurd (none-some n e)
 newest_has st k (m ∷ ns) n e = go (passes_option (λ a. same_key k (key_of a.question)) (nth st.queries m)) refl e (newest_has st k ns n)
   where
@@ -354,7 +354,7 @@ module _ (settings : Settings) (moment : ℕ) (before hs : State) (entered : Inp
   moved_cache : MovedParts settings moment before entered hits cache_now fit_now
   moved_cache = record {
     hit = λ st mover number done rest a p is e w u c. hit_cache st mover number done rest a p is (moved_stand.hit st mover number done rest a p is e w u c.tables) w c;
-    misses = λ st mover number done e c. c;
+    misses = λ st mover number done rest e w c. c;
     rests = λ st c. fit_from st st c c.tables refl refl;
     awaits = λ st n r text is u e c. fit_from st st c c.tables refl refl;
     asks = λ st n r question is u e c. fit_from st _ c (moved_stand.asks st n r question is u e c.tables) refl refl;

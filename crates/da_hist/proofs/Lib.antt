@@ -23,3 +23,5 @@ pub mod Silent
 pub mod Keys
 pub mod KeysLaw
 pub mod CheckLaw
+pub mod AsksNew
+pub mod Distinct

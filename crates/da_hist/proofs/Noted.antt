@@ -149,7 +149,7 @@ module _ (settings : Settings) where
     pub moved_noted : MovedParts settings moment before entered hits noted_but all_noted
     moved_noted = record {
       hit = λ st mover number done rest a p is e w u q. changed_but (with_answer a.question.db p.0) st.requests mover q;
-      misses = λ st mover number done e q. q;
+      misses = λ st mover number done rest e w q. q;
       rests = λ st q. all_of_none st.requests q;
       awaits = λ st n r text is u e q. settled_noted st.requests n r is (open_noted r u (ap decision_in e)) q;
       asks = λ st n r question is u e q. settled_noted st.requests n r is (open_noted r u (ap decision_in e)) q;

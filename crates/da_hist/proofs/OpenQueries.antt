@@ -293,7 +293,7 @@ module _ (settings : Settings) (moment : ℕ) (before : State) (entered : Input)
   pub moved_asked : MovedParts settings moment before entered hits asked_now all_asked
   moved_asked = record {
     hit = λ st mover number done rest a p is e w u q. hit_asked st mover number a p.0 q;
-    misses = λ st mover number done e q. q;
+    misses = λ st mover number done rest e w q. q;
     rests = λ st q. q.all;
     awaits = λ st n r text is u e q. q.all;
     asks = λ st n r question is u e q. asked_anew settings st.requests st.queries _ r is u (ap question_in e) q.all q.none;
@@ -301,16 +301,16 @@ module _ (settings : Settings) (moment : ℕ) (before : State) (entered : Input)
     kept = λ st m query given a l run is k q. q;
   }
 
-due_asked : (settings : Settings) (moment : ℕ) (st : State) → AllAsked settings st.requests st.queries → AllAsked settings (with_due_replied settings moment st).requests (with_due_replied settings moment st).queries
+pub due_all_asked : (settings : Settings) (moment : ℕ) (st : State) → AllAsked settings st.requests st.queries → AllAsked settings (with_due_replied settings moment st).requests (with_due_replied settings moment st).queries
 unfolding with_due_replied
-due_asked settings moment st p = other_requests settings st.requests (map (replied_if_due settings moment) st.requests) st.queries
+due_all_asked settings moment st p = other_requests settings st.requests (map (replied_if_due settings moment) st.requests) st.queries
     (mapped_rows (AsksSame settings) (asks_same settings) (asks_same_later settings) (replied_if_due settings moment) (due_asks settings moment) st.requests) p
 
 pub entry_asked : (settings : Settings) (st : State) (e : Entry) → AllAsked settings st.requests st.queries → AllAsked settings (after settings st e).requests (after settings st e).queries
 entry_asked settings st e p =
     let before : State = with_due_replied settings e.moment st in
     an_entry_gives settings st e (asked_now settings e.moment before e.input e.hits) (all_asked settings e.moment before e.input e.hits)
-    (heard_asked settings e.moment before e.input e.hits) (moved_asked settings e.moment before e.input e.hits) (record { all = due_asked settings e.moment st p; none = tt })
+    (heard_asked settings e.moment before e.input e.hits) (moved_asked settings e.moment before e.input e.hits) (record { all = due_all_asked settings e.moment st p; none = tt })
 
 pub nowhere : {A : Type 0} (k : ℕ) (a : A) → nth [] k ≡ Some a → ⊥
 nowhere zero a e = none-some a e

@@ -151,7 +151,7 @@ module _ (settings : Settings) (moment : ℕ) (before : State) (entered : Input)
   pub moved_open : MovedParts settings moment before entered hits open_now open_after
   moved_open = record {
     hit = λ st mover number done rest a p is e w u q. changed_open st.connections (with_answer a.question.db p.0) (answer_keeps a.question.db p.0) st.requests mover q;
-    misses = λ st mover number done e q. q;
+    misses = λ st mover number done rest e w q. q;
     rests = λ st q. q;
     awaits = λ st n r text is u e q. q;
     asks = λ st n r question is u e q. q;
@@ -221,7 +221,7 @@ module _ (settings : Settings) (origin : State) (e : Entry) where
   moved_mover : MovedParts settings e.moment before e.input e.hits unit_now MoverOpen
   moved_mover = record {
     hit = λ st mover number done rest a p is x w u q. tt;
-    misses = λ st mover number done x q. tt;
+    misses = λ st mover number done rest x w q. tt;
     rests = λ st q n d. absurd (none-some n d);
     awaits = λ st n r text is u x q. of_mover st n r is u;
     asks = λ st n r question is u x q. of_mover st n r is u;

@@ -273,7 +273,7 @@ module _ (settings : Settings) (moment : ℕ) (origin before : State) (entered :
   pub moved_stands : MovedParts settings moment before entered hits Q P
   moved_stands = record {
     hit = λ st mover number done rest a p is e w u q. hit_stands st mover number a p.0 u q;
-    misses = λ st mover number done e q. q;
+    misses = λ st mover number done rest e w q. q;
     rests = λ st q. q;
     awaits = λ st n r text is u e q. q;
     asks = λ st n r question is u e q. with_queries origin st q _ (longer_rows QueryStands same_query query_later st.queries _);

@@ -1,12 +1,13 @@
 -- Laws on queries and their answers.
-use Rattle.std.specs.Prelude.{◌≡◌, ℕ, List, Option, Some, None}
-use Rattle.da_base.specs.Words.{nth}
+use Rattle.std.specs.Prelude.{◌≡◌, ◌≤◌, ℕ, List, Option, Some, None, ◌==◌}
+use Rattle.da_base.specs.Words.{nth, count_where}
 use Rattle.da_hist.specs.declared.input.Entry.{Entry}
 use Rattle.da_hist.specs.declared.settings.Settings.{Settings}
 use Rattle.da_hist.specs.declared.state.Asked.{Asked}
 use Rattle.da_hist.specs.declared.state.Request.{Request}
 use Rattle.da_hist.specs.Requests.{request_stage, question_in}
 use Rattle.da_hist.specs.History.{state}
+use Rattle.da_hist.specs.Legal.{IsLegal}
 
 -- query number k is what its request asks, which isn't decided, and no other query of this request has no answer
 pub record IsAsked (settings : Settings) (requests : List Request) (queries : List Asked) (k : ℕ) (a : Asked) : Type 0 where
@@ -22,3 +23,9 @@ abbrev pub OpenQueriesAreAsked : Type 0
 OpenQueriesAreAsked =
     (settings : Settings) (h : List Entry) (k : ℕ) (a : Asked) → nth (state settings h).queries k ≡ Some a → a.answer ≡ None →
     IsAsked settings (state settings h).requests (state settings h).queries k a
+
+-- in a legal history the answers of a request are those of distinct databases
+abbrev pub AnswersAreDistinct : Type 0
+AnswersAreDistinct =
+    (settings : Settings) (h : List Entry) → IsLegal settings h → (n : ℕ) (r : Request) → nth (state settings h).requests n ≡ Some r →
+    (db : ℕ) → count_where (λ p. p.0 == db) r.answers ≤ 1

@@ -6,7 +6,7 @@ ghost use Rattle.da_hist.specs.GrantLaws.{GrantedAtMostOnce, UserWasGranted, Gra
 ghost use Rattle.da_hist.specs.SuccessLaws.{OkHasItsAnswer};
 ghost use Rattle.da_hist.specs.HitLaws.{HitsAreUnique, HitsAreHits, KeysFit};
 ghost use Rattle.da_hist.specs.CheckLaws.{ChecksAreTests, HintsAreCompared};
-ghost use Rattle.da_hist.specs.QueryLaws.{OpenQueriesAreAsked};
+ghost use Rattle.da_hist.specs.QueryLaws.{OpenQueriesAreAsked, AnswersAreDistinct};
 ghost use Rattle.da_hist.specs.PlayLaws.{PlaysAreLegal, LegalIsPlayed};
 ghost use Rattle.da_hist.specs.StandingLaws.{WhatIsSettledStands, UsedStaysUsed, DecisionsStand};
 
@@ -118,4 +118,9 @@ pub fn checks_are_tests()
 /// What a hint names is compared by the entry that it is for, which isn't refused.
 pub fn hints_are_compared()
     ensures { HintsAreCompared }
+{}
+
+/// In a legal history the answers of a request are those of distinct databases.
+pub fn answers_are_distinct()
+    ensures { AnswersAreDistinct }
 {}
