@@ -22,6 +22,7 @@ use Rattle.da_hist.specs.History.{after, heard, settled, moved, keeps, kept_for,
 use Rattle.da_hist.specs.Hits.{after_hits, after_hit, hit_on, hit_with, answer_of}
 use Rattle.da_hist.specs.LinesHeard.{new_request, is_awaiting, continues, is_cancellable, cancels, obeys, obeys_master, client_line, master_line, line_on, line_by, with_text, versioned, with_pid}
 use Rattle.da_hist.specs.Queries.{answers_request, records, records_for, recorded_answer, is_running, is_running_in, is_kept, key_of, life, with_answer, with_late_answer, answered_by, first_waiting, with_new_query}
+use Rattle.da_hist.specs.ReadingLaws.{Tells}
 use Rattle.da_hist.specs.Requests.{request_stage, is_undecided}
 use Rattle.da_hist.specs.Tables.{Heard, moving, moving_none, moving_new, closing, with_end, with_connection, with_request, with_query, cancelled, is_client, is_open_in}
 use Rattle.da_hist.specs.declared.input.Entry.{Entry}
@@ -67,12 +68,6 @@ Ends before (Line c text random) conn = (c ≡ conn) × (is_open_in before conn 
 Ends before (Broken c) conn = c ≡ conn
 Ends before (Gone c) conn = c ≡ conn
 Ends before _ conn = ⊥
-
--- this answer to this query, or that it is late
-abbrev pub Gives : Input → ℕ → Answer → Type 0
-Gives (Answered n answer) query given = (n ≡ query) × (answer ≡ given)
-Gives (Late n) query given = (n ≡ query) × (Internal WasLate ≡ given)
-Gives _ query given = ⊥
 
 -- a new request with this body: a client's login, or a master's lookup
 abbrev pub MadeLogin : State → Input → ℕ → ℕ → Bytes → Body → Type 0
@@ -125,10 +120,10 @@ pub record HeardParts (settings : Settings) (moment : ℕ) (before : State) (ent
   pub makes : (conn id : ℕ) (random : Bytes) (body : Body) → IsMade settings moment before entered conn id random body → P before None →
       P (record before { requests = before.requests ++ new_request moment conn id random body ∷ [] }) (Some (suc (length before.requests)))
   pub takes : entered ≡ Take → P before None → P (with_query (taken moment) (first_waiting before) before) None
-  pub answers : (query : ℕ) (given : Answer) (a : Asked) → Gives entered query given → nth before.queries query ≡ Some a → is_running a ≡ true →
+  pub answers : (query : ℕ) (given : Answer) (a : Asked) → Tells entered query given → nth before.queries query ≡ Some a → is_running a ≡ true →
       IsUndecidedAt before.requests a.request → P before None →
       P (with_request (with_answer a.question.db (recorded_answer a.question.kind given)) a.request (recorded settings moment before query a given)) (Some a.request)
-  pub lates : (query : ℕ) (given : Answer) (a : Asked) → Gives entered query given → nth before.queries query ≡ Some a → is_running a ≡ true →
+  pub lates : (query : ℕ) (given : Answer) (a : Asked) → Tells entered query given → nth before.queries query ≡ Some a → is_running a ≡ true →
       passes_option is_undecided (nth before.requests a.request) ≡ false → P before None →
       P (with_request (with_late_answer a.question.db (recorded_answer a.question.kind given)) a.request (recorded settings moment before query a given)) None
 
@@ -232,7 +227,7 @@ module _ (settings : Settings) (moment : ℕ) (before : State) (entered : Input)
   sound_line conn text random l (Some c) is p = by_test IsSound c.is_open (line_by settings moment conn text random c before) (moving_none before)
       (λ e. sound_line_by conn text random l c is e p) (λ e. quiet before p)
 
-  sound_answers : (query : ℕ) (given : Answer) (a : Asked) → Gives entered query given → nth before.queries query ≡ Some a → is_running a ≡ true → P before None →
+  sound_answers : (query : ℕ) (given : Answer) (a : Asked) → Tells entered query given → nth before.queries query ≡ Some a → is_running a ≡ true → P before None →
       IsSound (records_for settings moment query a (recorded_answer a.question.kind given) before)
   sound_answers query given a g is run p =
       by_test IsSound (passes_option is_undecided (nth before.requests a.request))
@@ -244,7 +239,7 @@ module _ (settings : Settings) (moment : ℕ) (before : State) (entered : Input)
       })
       (λ e. quiet _ (k.lates query given a g is run e p))
 
-  sound_records : (query : ℕ) (given : Answer) → Gives entered query given → (o : Option Asked) → nth before.queries query ≡ o → P before None →
+  sound_records : (query : ℕ) (given : Answer) → Tells entered query given → (o : Option Asked) → nth before.queries query ≡ o → P before None →
       IsSound (records settings moment query given o before)
   sound_records query given g None is p = quiet before p
   sound_records query given g (Some a) is p = by_test IsSound (is_running a) (records_for settings moment query a (recorded_answer a.question.kind given) before) (moving_none before)
@@ -257,8 +252,8 @@ module _ (settings : Settings) (moment : ℕ) (before : State) (entered : Input)
   sound_heard (Broken conn) l p = sound_ends conn (subst (λ (i : Input). Ends before i conn) (sym l) refl) p
   sound_heard (Gone conn) l p = quiet _ (k.ends conn (subst (λ (i : Input). Ends before i conn) (sym l) refl) p)
   sound_heard Take l p = quiet _ (k.takes l p)
-  sound_heard (Answered query given) l p = sound_records query given (subst (λ (i : Input). Gives i query given) (sym l) (refl, refl)) (nth before.queries query) refl p
-  sound_heard (Late query) l p = sound_records query (Internal WasLate) (subst (λ (i : Input). Gives i query (Internal WasLate)) (sym l) (refl, refl)) (nth before.queries query) refl p
+  sound_heard (Answered query given) l p = sound_records query given (subst (λ (i : Input). Tells i query given) (sym l) (refl, refl)) (nth before.queries query) refl p
+  sound_heard (Late query) l p = sound_records query (Internal WasLate) (subst (λ (i : Input). Tells i query (Internal WasLate)) (sym l) (refl, refl)) (nth before.queries query) refl p
   sound_heard Tick l p = quiet before p
 
 -- ---- hits, and what follows

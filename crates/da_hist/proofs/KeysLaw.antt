@@ -5,7 +5,7 @@ use Rattle.std.proofs.lemmas.Bool.{eqb-true}
 use Rattle.std.proofs.lemmas.Option.{none-some, same_Some}
 use Rattle.da_hist.proofs.Entries.{by_test, and_first, and_second}
 use Rattle.da_hist.proofs.EntryInduction.{MoverUndecided}
-use Rattle.da_hist.proofs.EntryParts.{HeardParts, MovedParts, IsSound, Gives, sound_heard, moved_gives, with_kept}
+use Rattle.da_hist.proofs.EntryParts.{HeardParts, MovedParts, IsSound, sound_heard, moved_gives, with_kept}
 use Rattle.da_hist.proofs.Keys.{keys_equal, key_is, not_without, without_has, first_distinct, without_distinct, first_has, has_first, first_fits, without_fits, take_fits, take_count, take_has}
 use Rattle.da_hist.proofs.Rows.{passing, mapped_value, nth-changed}
 use Rattle.da_hist.proofs.Standing.{heard_stands, moved_stands, due_stand, tables_later, all_same}
@@ -18,12 +18,13 @@ use Rattle.da_hist.specs.Hits.{AreHits, IsUsable, newest, newest_among, with_hit
 use Rattle.da_hist.specs.HitLaws.{HasAnswer, KeysAreFit, KeysFit}
 use Rattle.da_hist.specs.Legal.{IsLegal, IsNext, MoverHits, EntryHits}
 use Rattle.da_hist.specs.Queries.{key_of, life, is_running, is_running_in, recorded_answer, answered_by, answers_request, records, records_for, with_answer, with_late_answer}
+use Rattle.da_hist.specs.ReadingLaws.{Tells}
 use Rattle.da_hist.specs.Requests.{is_undecided}
 use Rattle.da_hist.specs.StandingLaws.{TablesStand, QueryStands}
 use Rattle.da_hist.specs.Tables.{Heard, with_end, moving, moving_none, with_query, with_request}
 use Rattle.da_hist.specs.declared.input.Entry.{Entry}
 use Rattle.da_hist.specs.declared.input.Input.{Input}
-use Rattle.da_hist.specs.declared.input.Input.TheVariants.{Answered}
+use Rattle.da_hist.specs.declared.input.Input.TheVariants.{Opened, Line, Broken, Gone, Take, Answered, Late, Tick}
 use Rattle.da_hist.specs.declared.settings.Settings.{Settings}
 use Rattle.da_hist.specs.declared.state.Asked.{Asked}
 use Rattle.da_hist.specs.declared.state.Question.{Question}
@@ -188,11 +189,27 @@ module _ (settings : Settings) (moment query : ℕ) (given : Answer) (before : S
   recorded_row : IsRecorded (changed_nth change before.queries query) query a answer moment
   recorded_row = record { row = change a; stands = nth-changed change before.queries query ∙ ap (option_map change) is; question = refl; is_recorded = refl }
 
-  pub answer_is_recorded : IsRecorded (heard settings moment (Answered query given) before).state.queries query a answer moment
-  unfolding heard
-  answer_is_recorded = subst (λ (o : Option Asked). IsRecorded (records settings moment query given o before).state.queries query a answer moment) (sym is)
+  records_it : IsRecorded (records settings moment query given (nth before.queries query) before).state.queries query a answer moment
+  records_it = subst (λ (o : Option Asked). IsRecorded (records settings moment query given o before).state.queries query a answer moment) (sym is)
       (subst (λ (b : Bool). IsRecorded (cond b (records_for settings moment query a answer before) (moving_none before)).state.queries query a answer moment) (sym run)
       (by_test (λ (h : Heard). IsRecorded h.state.queries query a answer moment) (passes_option is_undecided (nth before.requests a.request)) _ _ (λ e. recorded_row) (λ e. recorded_row)))
+
+-- the answer that an input tells of a running query is recorded with it
+pub told_is_recorded : (settings : Settings) (moment query : ℕ) (given : Answer) (before : State) (a : Asked) → nth before.queries query ≡ Some a → is_running a ≡ true → (input : Input) → Tells input query given →
+    IsRecorded (heard settings moment input before).state.queries query a (recorded_answer a.question.kind given) moment
+unfolding heard
+told_is_recorded settings moment query given before a is run (Opened kind random) t = absurd t
+told_is_recorded settings moment query given before a is run (Line conn text random) t = absurd t
+told_is_recorded settings moment query given before a is run (Broken conn) t = absurd t
+told_is_recorded settings moment query given before a is run (Gone conn) t = absurd t
+told_is_recorded settings moment query given before a is run Take t = absurd t
+told_is_recorded settings moment query given before a is run (Answered n answer) t =
+    subst (λ (i : Answer). IsRecorded (records settings moment n i (nth before.queries n) before).state.queries query a (recorded_answer a.question.kind given) moment) (sym t.1)
+    (subst (λ (k : ℕ). IsRecorded (records settings moment k given (nth before.queries k) before).state.queries query a (recorded_answer a.question.kind given) moment) (sym t.0) (records_it settings moment query given before a is run))
+told_is_recorded settings moment query given before a is run (Late n) t =
+    subst (λ (i : Answer). IsRecorded (records settings moment n i (nth before.queries n) before).state.queries query a (recorded_answer a.question.kind given) moment) (sym t.1)
+    (subst (λ (k : ℕ). IsRecorded (records settings moment k given (nth before.queries k) before).state.queries query a (recorded_answer a.question.kind given) moment) (sym t.0) (records_it settings moment query given before a is run))
+told_is_recorded settings moment query given before a is run Tick t = absurd t
 
 -- ---- the parts of an entry
 
@@ -382,7 +399,8 @@ entry_fit settings st e hits f =
       tables = all_same h.state; recordings = refl; fit = fit.keys.fit; distinct = fit.keys.are_distinct; within = λ k x. x; all = λ k x. x } in
     (moved_gives settings e.moment before e.input e.hits _ _
     (moved_cache settings e.moment before h.state e.input e.hits fit cached
-    (λ query given a l is run. subst (λ (i : Input). IsRecorded (heard settings e.moment i before).state.queries query a (recorded_answer a.question.kind given) e.moment) (sym l) (answer_is_recorded settings e.moment query given before a is run)))
+    (λ query given a l is run. subst (λ (i : Input). IsRecorded (heard settings e.moment i before).state.queries query a (recorded_answer a.question.kind given) e.moment) (sym l)
+    (told_is_recorded settings e.moment query given before a is run (Answered query given) (refl, refl))))
     h now s.mover).fit
 
 start_fit : (settings : Settings) → IsFit settings (state settings [])

@@ -25,3 +25,4 @@ pub mod KeysLaw
 pub mod CheckLaw
 pub mod AsksNew
 pub mod Distinct
+pub mod QueryReadings

@@ -31,6 +31,7 @@ module _ (settings : Settings) where
   pub record IsNoted (r : Request) : Type 0 where
     pub noted : is_some (decision settings r) ≡ true → r.is_cancelled ≡ false → is_some r.decided ≡ true
     pub replied : is_some r.replied ≡ true → is_some r.decided ≡ true
+    pub by_stage : is_some r.decided ≡ true → is_some (decision settings r) ≡ true
 
   -- each request is noted but for this one
   abbrev pub AllNotedBut : Option ℕ → List Request → Type 0
@@ -64,7 +65,7 @@ module _ (settings : Settings) where
   same_decision r s e = ap decision_in e
 
   cancelled_noted : (r : Request) → IsNoted r → IsNoted (cancelled r)
-  cancelled_noted r p = record { noted = λ d e. absurd (true≢false e); replied = λ e. p.replied e }
+  cancelled_noted r p = record { noted = λ d e. absurd (true≢false e); replied = λ e. p.replied e; by_stage = λ e. ap is_some (same_decision r (cancelled r) (same_stage settings r (cancelled r) refl refl refl refl)) ∙ p.by_stage e }
 
   cancelled_of_noted : (conn : ℕ) (r : Request) → IsNoted r → IsNoted (cancelled_of conn r)
   cancelled_of_noted conn r p = by_test IsNoted (is_of conn r) (cancelled r) r (λ e. cancelled_noted r p) (λ e. p)
@@ -72,7 +73,7 @@ module _ (settings : Settings) where
   -- a late answer goes to a request that isn't undecided
   late_noted : (db : ℕ) (answer : Answer) (r : Request) → is_undecided r ≡ false → IsNoted r → IsNoted (with_late_answer db answer r)
   late_noted db answer r u p = by_test IsNoted (is_some r.decided) r (with_answer db answer r) (λ e. p)
-      (λ e. record { noted = λ d c. absurd (undecided e c); replied = λ x. p.replied x })
+      (λ e. record { noted = λ d c. absurd (undecided e c); replied = λ x. p.replied x; by_stage = λ x. absurd (true≢false (sym x ∙ e)) })
     where
       unreplied : is_some r.decided ≡ false → (b : Bool) → is_some r.replied ≡ b → b ≡ false
       unreplied e true d = absurd (true≢false (sym (p.replied d) ∙ e))
@@ -86,12 +87,17 @@ module _ (settings : Settings) where
   unfolding is_due
   due_noted moment r p = by_test IsNoted (is_due settings moment r) (record r { replied = Some moment }) r
       (λ e. let d : is_some r.decided ≡ true = and_first (is_some r.decided) _ (and_first (is_some r.decided && not r.is_cancelled) _ (and_first (is_held r) _ e)) in
-      record { noted = λ x c. d; replied = λ x. d })
+      record { noted = λ x c. d; replied = λ x. d; by_stage = λ x. ap is_some (same_decision r (record r { replied = Some moment }) (same_stage settings r (record r { replied = Some moment }) refl refl refl refl)) ∙ p.by_stage x })
       (λ e. p)
 
-  decision_noted : (moment : ℕ) (r : Request) → IsNoted (with_decision settings moment r)
-  decision_noted moment r = by_test IsNoted (is_due settings moment (record r { decided = Some moment })) _ _
-      (λ e. record { noted = λ x c. refl; replied = λ x. refl }) (λ e. record { noted = λ x c. refl; replied = λ x. refl })
+  decision_noted : (moment : ℕ) (r : Request) → is_some (decision settings r) ≡ true → IsNoted (with_decision settings moment r)
+  decision_noted moment r d = by_test IsNoted (is_due settings moment (record r { decided = Some moment })) (record r { decided = Some moment; replied = Some moment }) (record r { decided = Some moment })
+      (λ e. record { noted = λ x c. refl; replied = λ x. refl; by_stage = λ x. ap is_some (same_decision r (record r { decided = Some moment; replied = Some moment }) (same_stage settings r _ refl refl refl refl)) ∙ d })
+      (λ e. record { noted = λ x c. refl; replied = λ x. refl; by_stage = λ x. ap is_some (same_decision r (record r { decided = Some moment }) (same_stage settings r _ refl refl refl refl)) ∙ d })
+
+  decided_by : (r : Request) {d : Decision} → request_stage settings r ≡ Decided d → is_some (decision settings r) ≡ true
+  unfolding decision
+  decided_by r e = ap (λ (s : Stage). is_some (decision_in s)) e
 
   -- who awaits a message or asks isn't decided
   open_noted : (r : Request) → is_undecided r ≡ true → decision_in (request_stage settings r) ≡ None → IsNoted r
@@ -99,6 +105,7 @@ module _ (settings : Settings) where
   open_noted r u e = record {
     noted = λ d c. absurd (true≢false (sym d ∙ ap is_some e));
     replied = λ d. absurd (true≢false (sym d ∙ not_true (is_some r.replied) (and_second (not r.is_cancelled) _ (and_first (is_pending r) _ u))));
+    by_stage = λ d. absurd (true≢false (sym d ∙ not_true (is_some r.decided) (and_second (is_pending r) _ u)));
   }
 
   settled_noted : (rs : List Request) (m : ℕ) (r : Request) → nth rs m ≡ Some r → IsNoted r → AllNotedBut (Some m) rs → AllNoted rs
@@ -153,7 +160,7 @@ module _ (settings : Settings) where
       rests = λ st q. all_of_none st.requests q;
       awaits = λ st n r text is u e q. settled_noted st.requests n r is (open_noted r u (ap decision_in e)) q;
       asks = λ st n r question is u e q. settled_noted st.requests n r is (open_noted r u (ap decision_in e)) q;
-      decides = λ st n r d is u e q. changed_noted (with_decision settings moment) st.requests n (λ s x. decision_noted moment s) q;
+      decides = λ st n r d is u e q. changed_noted (with_decision settings moment) st.requests n (λ s x. decision_noted moment s (decided_by s (subst (λ (y : Request). request_stage settings y ≡ Decided d) (same_Some r s (sym is ∙ x)) e))) q;
       kept = λ st m query given a l run is k q. q;
     }
 

@@ -122,3 +122,31 @@ first_passes {A} test (y ∷ xs) x e = go (first_passes test xs x) (test y) refl
     go : (nth xs (number_where test xs) ≡ Some x → test x ≡ true) → (b : Bool) → test y ≡ b → test x ≡ true
     go further true d = subst (λ z. test z ≡ true) (same_Some y x (sym (ap (λ (b : Bool). nth (y ∷ xs) (cond b 1 (one_further (number_where test xs)))) d) ∙ e)) d
     go further false d = further (later (number_where test xs) (sym (ap (λ (b : Bool). nth (y ∷ xs) (cond b 1 (one_further (number_where test xs)))) d) ∙ e))
+
+-- the number of the first row that passes is that of a row
+pub number_found : {A : Type 0} (test : A → Bool) (xs : List A) (n : ℕ) → number_where test xs ≡ suc n → (x : A) × (nth xs (suc n) ≡ Some x)
+number_found test [] n e = absurd (zero-not-suc n e)
+  where
+    is_zero : ℕ → Bool
+    is_zero zero = true
+    is_zero (suc n) = false
+
+    zero-not-suc : (n : ℕ) → zero ≡ suc n → ⊥
+    zero-not-suc n e = true≢false (ap is_zero e)
+number_found {A} test (y ∷ xs) n e = go (number_found test xs) (test y) refl
+  where
+    less : ℕ → ℕ
+    less zero = zero
+    less (suc n) = n
+
+    is_zero : ℕ → Bool
+    is_zero zero = true
+    is_zero (suc n) = false
+
+    further : ((k : ℕ) → number_where test xs ≡ suc k → (x : A) × (nth xs (suc k) ≡ Some x)) → (m : ℕ) → number_where test xs ≡ m → one_further m ≡ suc n → (x : A) × (nth (y ∷ xs) (suc n) ≡ Some x)
+    further rest zero d w = absurd (true≢false (ap is_zero w))
+    further rest (suc k) d w = subst (λ (j : ℕ). (x : A) × (nth (y ∷ xs) (suc j) ≡ Some x)) (ap less w) (rest k d)
+
+    go : ((k : ℕ) → number_where test xs ≡ suc k → (x : A) × (nth xs (suc k) ≡ Some x)) → (b : Bool) → test y ≡ b → (x : A) × (nth (y ∷ xs) (suc n) ≡ Some x)
+    go rest true d = subst (λ (j : ℕ). (x : A) × (nth (y ∷ xs) (suc j) ≡ Some x)) (ap less (sym (ap (λ (b : Bool). cond b 1 (one_further (number_where test xs))) d) ∙ e)) (y, refl)
+    go rest false d = further rest (number_where test xs) refl (sym (ap (λ (b : Bool). cond b 1 (one_further (number_where test xs))) d) ∙ e)

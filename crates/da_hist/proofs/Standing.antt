@@ -4,20 +4,20 @@ use Rattle.std.specs.List.{list_any}
 use Rattle.std.proofs.lemmas.Option.{none-some, same_Some}
 use Rattle.da_hist.proofs.Entries.{by_test, and_first, and_second, not_true}
 use Rattle.da_hist.proofs.EntryInduction.{IsUndecidedAt}
-use Rattle.da_hist.proofs.EntryParts.{HeardParts, MovedParts, IsSameConnection, HearsClient, an_entry_gives, recorded}
+use Rattle.da_hist.proofs.EntryParts.{HeardParts, MovedParts, IsSameConnection, IsSound, sound_heard, moved_gives, an_entry_gives, recorded}
 use Rattle.da_hist.proofs.Rows.{same_or_not, nth-changed, nth-unchanged, nth-map, nth-before, first_passes}
 use Rattle.da_base.specs.Words.{Bytes, nth, changed_nth, passes_option}
 use Rattle.da_fields.specs.Answers.{Answers}
 use Rattle.da_fields.specs.declared.answer.Answer.{Answer}
 use Rattle.da_cache.specs.Keys.{key_first}
 use Rattle.da_hist.specs.Grants.{is_used}
-use Rattle.da_hist.specs.History.{state, with_due_replied, after, with_decision, replied_if_due, taken}
+use Rattle.da_hist.specs.History.{state, with_due_replied, after, heard, with_decision, replied_if_due, taken}
 use Rattle.da_hist.specs.Hits.{used_again, hit_test, hit_with}
 use Rattle.da_hist.specs.LinesHeard.{with_text, body_with_text}
 use Rattle.da_hist.specs.Queries.{with_answer, with_late_answer, answered_by, is_running, is_waiting, first_waiting, recorded_answer, key_of}
 use Rattle.da_hist.specs.Requests.{is_granted_for, is_undecided, is_due, is_held, is_pending, decision, decision_in, request_stage, body_stage}
 use Rattle.da_hist.specs.StandingLaws.{ConnectionStands, RequestStands, QueryStands, TablesStand, WhatIsSettledStands, UsedStaysUsed, DecisionsStand}
-use Rattle.da_hist.specs.Tables.{with_end, with_query, closed, cancelled, cancelled_of, is_of}
+use Rattle.da_hist.specs.Tables.{Heard, with_end, with_query, closed, cancelled, cancelled_of, is_of}
 use Rattle.da_hist.specs.declared.input.Entry.{Entry}
 use Rattle.da_hist.specs.declared.input.Input.{Input}
 use Rattle.da_hist.specs.declared.settings.Settings.{Settings}
@@ -293,6 +293,16 @@ entry_stands settings st e =
     let before : State = with_due_replied settings e.moment st in
     an_entry_gives settings st e (Q settings e.moment st before e.input e.hits) (P settings e.moment st before e.input e.hits)
     (heard_stands settings e.moment st before e.input e.hits) (moved_stands settings e.moment st before e.input e.hits) (due_stand settings e.moment st)
+
+-- what follows an input's own effect lets stand what that left
+pub rest_stands : (settings : Settings) (st : State) (e : Entry) → TablesStand (heard settings e.moment e.input (with_due_replied settings e.moment st)).state (after settings st e)
+unfolding after
+rest_stands settings st e =
+    let before : State = with_due_replied settings e.moment st in
+    let h : Heard = heard settings e.moment e.input before in
+    let s : IsSound settings e.moment before e.input (λ x m. TablesStand before x) _ h =
+        sound_heard settings e.moment before e.input (λ x m. TablesStand before x) (heard_stands settings e.moment before before e.input e.hits) e.input refl (all_same before) in
+    moved_gives settings e.moment before e.input e.hits (λ x m done. TablesStand h.state x) (λ x m. TablesStand h.state x) (moved_stands settings e.moment h.state before e.input e.hits) h (all_same h.state) s.mover
 
 pub what_is_settled_stands : WhatIsSettledStands
 what_is_settled_stands settings [] h = all_same (state settings h)

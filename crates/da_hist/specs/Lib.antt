@@ -22,6 +22,7 @@ pub mod ReplyLaws
 pub mod StageLaws
 pub mod StandingLaws
 pub mod QueryLaws
+pub mod ReadingLaws
 pub mod CheckLaws
 pub mod GrantLaws
 pub mod SuccessLaws

@@ -6,6 +6,7 @@ ghost use Rattle.da_hist.specs.GrantLaws.{GrantedAtMostOnce, UserWasGranted, Gra
 ghost use Rattle.da_hist.specs.SuccessLaws.{OkHasItsAnswer};
 ghost use Rattle.da_hist.specs.HitLaws.{HitsAreUnique, HitsAreHits, KeysFit};
 ghost use Rattle.da_hist.specs.CheckLaws.{ChecksAreTests, HintsAreCompared};
+ghost use Rattle.da_hist.specs.ReadingLaws.{QueriesAreRead};
 ghost use Rattle.da_hist.specs.QueryLaws.{OpenQueriesAreAsked, AnswersAreDistinct};
 ghost use Rattle.da_hist.specs.PlayLaws.{PlaysAreLegal, LegalIsPlayed};
 ghost use Rattle.da_hist.specs.StandingLaws.{WhatIsSettledStands, UsedStaysUsed, DecisionsStand};
@@ -123,4 +124,9 @@ pub fn hints_are_compared()
 /// In a legal history the answers of a request are those of distinct databases.
 pub fn answers_are_distinct()
     ensures { AnswersAreDistinct }
+{}
+
+/// A query was taken exactly where a Take handed it out, and has an answer exactly where an entry gave it one or told that it is late.
+pub fn queries_are_read()
+    ensures { QueriesAreRead }
 {}
