@@ -49,6 +49,7 @@ pub record HearsClient (before : State) (entered : Input) (conn : ℕ) (random :
   pub connection : Connection
   pub stands : nth before.connections conn ≡ Some connection
   pub is_connected : connection.is_open ≡ true
+  pub is_client : is_client connection.kind ≡ true
   pub spells : client_message text ≡ Some message
   pub may : client_may before conn connection message ≡ true
 
@@ -59,6 +60,7 @@ pub record HearsMaster (before : State) (entered : Input) (conn : ℕ) (random :
   pub connection : Connection
   pub stands : nth before.connections conn ≡ Some connection
   pub is_connected : connection.is_open ≡ true
+  pub is_master : is_client connection.kind ≡ false
   pub spells : master_message text ≡ Some message
   pub may : master_may before conn connection message ≡ true
 
@@ -206,20 +208,20 @@ module _ (settings : Settings) (moment : ℕ) (before : State) (entered : Input)
     closes : IsSound (closing conn before)
     closes = sound_ends conn (line_ends conn text random l (ap (passes_option (λ c. c.is_open)) is ∙ o)) p
 
-    sound_client_line : (said : Option ClientMsg) → client_message text ≡ said → IsSound (client_line settings moment conn random c said before)
-    sound_client_line None s = closes
-    sound_client_line (Some message) s = by_test IsSound (client_may before conn c message) (obeys settings moment conn random message before) (closing conn before)
-        (λ e. sound_obeys conn random message (record { text = text; is_line = l; connection = c; stands = is; is_connected = o; spells = s; may = e }) p)
+    sound_client_line : is_client c.kind ≡ true → (said : Option ClientMsg) → client_message text ≡ said → IsSound (client_line settings moment conn random c said before)
+    sound_client_line d None s = closes
+    sound_client_line d (Some message) s = by_test IsSound (client_may before conn c message) (obeys settings moment conn random message before) (closing conn before)
+        (λ e. sound_obeys conn random message (record { text = text; is_line = l; connection = c; stands = is; is_connected = o; is_client = d; spells = s; may = e }) p)
         (λ e. closes)
 
-    sound_master_line : (said : Option MasterMsg) → master_message text ≡ said → IsSound (master_line settings moment conn random c said before)
-    sound_master_line None s = closes
-    sound_master_line (Some message) s = by_test IsSound (master_may before conn c message) (obeys_master settings moment conn random message before) (closing conn before)
-        (λ e. sound_obeys_master conn random message (record { text = text; is_line = l; connection = c; stands = is; is_connected = o; spells = s; may = e }) p)
+    sound_master_line : is_client c.kind ≡ false → (said : Option MasterMsg) → master_message text ≡ said → IsSound (master_line settings moment conn random c said before)
+    sound_master_line d None s = closes
+    sound_master_line d (Some message) s = by_test IsSound (master_may before conn c message) (obeys_master settings moment conn random message before) (closing conn before)
+        (λ e. sound_obeys_master conn random message (record { text = text; is_line = l; connection = c; stands = is; is_connected = o; is_master = d; spells = s; may = e }) p)
         (λ e. closes)
 
     sound_line_by : IsSound (line_by settings moment conn text random c before)
-    sound_line_by = by_test IsSound (is_client c.kind) _ _ (λ d. sound_client_line (client_message text) refl) (λ d. sound_master_line (master_message text) refl)
+    sound_line_by = by_test IsSound (is_client c.kind) _ _ (λ d. sound_client_line d (client_message text) refl) (λ d. sound_master_line d (master_message text) refl)
 
   sound_line : (conn : ℕ) (text random : Bytes) → entered ≡ Line conn text random → (o : Option Connection) → nth before.connections conn ≡ o → P before None →
       IsSound (line_on settings moment conn text random o before)

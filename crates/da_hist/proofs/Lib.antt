@@ -26,3 +26,5 @@ pub mod CheckLaw
 pub mod AsksNew
 pub mod Distinct
 pub mod QueryReadings
+pub mod RequestReadings
+pub mod ConnectionReadings

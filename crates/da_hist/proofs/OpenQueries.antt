@@ -35,7 +35,7 @@ abbrev pub NoneOf : List Asked → Option ℕ → Type 0
 NoneOf qs None = Unit {0}
 NoneOf qs (Some n) = (k : ℕ) (a : Asked) → nth qs k ≡ Some a → a.answer ≡ None → a.request ≡ n → ⊥
 
-none_there : {A : Type 0} (o : Option A) → is_some o ≡ false → o ≡ None
+pub none_there : {A : Type 0} (o : Option A) → is_some o ≡ false → o ≡ None
 none_there None e = refl
 none_there (Some x) e = absurd (true≢false e)
 

@@ -179,7 +179,7 @@ module _ (settings : Settings) (e : Entry) (origin : State) where
 
 -- ---- a history
 
-later_among : (e : Entry) (g : List Entry) (entry : Entry) (older : List Entry) → Among g entry older → Among (e ∷ g) entry older
+pub later_among : (e : Entry) (g : List Entry) (entry : Entry) (older : List Entry) → Among g entry older → Among (e ∷ g) entry older
 later_among e g entry older a = record { newer = e ∷ a.newer; stands = ap (λ (x : List Entry). e ∷ x) a.stands }
 
 module _ (settings : Settings) where

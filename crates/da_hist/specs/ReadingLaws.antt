@@ -125,3 +125,6 @@ pub record WasOpened (settings : Settings) (h : List Entry) (conn : ℕ) : Type 
 pub record OpenIsOpened (settings : Settings) : Type 0 where
   pub by_entry : (h : List Entry) (conn : ℕ) → is_open_in (state settings h) conn ≡ true → WasOpened settings h conn
   pub of_entry : (h : List Entry) (conn : ℕ) → WasOpened settings h conn → is_open_in (state settings h) conn ≡ true
+
+abbrev pub ConnectionsAreRead : Type 0
+ConnectionsAreRead = (settings : Settings) → OpenIsOpened settings

@@ -6,7 +6,7 @@ ghost use Rattle.da_hist.specs.GrantLaws.{GrantedAtMostOnce, UserWasGranted, Gra
 ghost use Rattle.da_hist.specs.SuccessLaws.{OkHasItsAnswer};
 ghost use Rattle.da_hist.specs.HitLaws.{HitsAreUnique, HitsAreHits, KeysFit};
 ghost use Rattle.da_hist.specs.CheckLaws.{ChecksAreTests, HintsAreCompared};
-ghost use Rattle.da_hist.specs.ReadingLaws.{QueriesAreRead};
+ghost use Rattle.da_hist.specs.ReadingLaws.{DecidedIsFirst, RepliedIsFirst, QueriesAreRead, ConnectionsAreRead};
 ghost use Rattle.da_hist.specs.QueryLaws.{OpenQueriesAreAsked, AnswersAreDistinct};
 ghost use Rattle.da_hist.specs.PlayLaws.{PlaysAreLegal, LegalIsPlayed};
 ghost use Rattle.da_hist.specs.StandingLaws.{WhatIsSettledStands, UsedStaysUsed, DecisionsStand};
@@ -129,4 +129,19 @@ pub fn answers_are_distinct()
 /// A query was taken exactly where a Take handed it out, and has an answer exactly where an entry gave it one or told that it is late.
 pub fn queries_are_read()
     ensures { QueriesAreRead }
+{}
+
+/// The moment at which a request was decided is that of the first entry after which its stage is decided.
+pub fn decided_is_first()
+    ensures { DecidedIsFirst }
+{}
+
+/// The moment at which a request was replied is that of an entry that found it neither replied nor cancelled.
+pub fn replied_is_first()
+    ensures { RepliedIsFirst }
+{}
+
+/// A connection is open exactly where an entry opened it and none after that ended it.
+pub fn connections_are_read()
+    ensures { ConnectionsAreRead }
 {}

@@ -1,0 +1,277 @@
+-- When a request was decided and replied is what the entries did.
+use Rattle.std.proofs.Common.{◌≡◌, ◌⊎◌, inl, inr, refl, sym, ◌∙◌, ap, ap₂, subst, Option, Some, None, List, [], ◌∷◌, ◌++◌, ℕ, zero, suc, Bool, true, false, map, length, is_some, not, ◌&&◌, true≢false}
+use Rattle.std.proofs.lemmas.Option.{none-some, same_Some}
+use Rattle.da_hist.proofs.Entries.{by_test, and_first, and_second, not_true}
+use Rattle.da_hist.proofs.EntryParts.{HeardParts, MovedParts, an_entry_gives}
+use Rattle.da_hist.proofs.Noted.{history_noted}
+use Rattle.da_hist.proofs.OpenQueries.{nowhere, none_there}
+use Rattle.da_hist.proofs.QueryReadings.{later_among}
+use Rattle.da_hist.proofs.Rows.{of_changed, of_appended, of_mapped}
+use Rattle.da_hist.proofs.Standing.{heard_stands, moved_stands, due_stand, undecided_is}
+use Rattle.da_base.specs.Words.{nth, changed_nth, passes_option}
+use Rattle.da_fields.specs.declared.answer.Answer.{Answer}
+use Rattle.da_hist.specs.History.{state, after, with_due_replied, with_decision, replied_if_due}
+use Rattle.da_hist.specs.LinesHeard.{new_request, with_text}
+use Rattle.da_hist.specs.Queries.{with_answer, with_late_answer}
+use Rattle.da_hist.specs.ReadingLaws.{Among, WasDecided, WasReplied, DecidedIsFirst, RepliedIsFirst}
+use Rattle.da_hist.specs.Requests.{is_undecided, is_pending, is_due, is_held, decision}
+use Rattle.da_hist.specs.StandingLaws.{TablesStand, RequestStands}
+use Rattle.da_hist.specs.Tables.{with_end, cancelled, cancelled_of, is_of}
+use Rattle.da_hist.specs.declared.input.Entry.{Entry}
+use Rattle.da_hist.specs.declared.input.Input.{Input}
+use Rattle.da_hist.specs.declared.settings.Settings.{Settings}
+use Rattle.da_hist.specs.declared.state.Request.{Request}
+use Rattle.da_hist.specs.declared.state.State.{State}
+
+-- ---- where a moment comes from
+
+module _ (F : Request → Option ℕ) (New : ℕ → ℕ → Type 0) (origin : List Request) where
+  record WasThere (n x : ℕ) : Type 0 where
+    pub row : Request
+    pub stood : nth origin n ≡ Some row
+    pub had : F row ≡ Some x
+
+  abbrev AllCame : List Request → Type 0
+  AllCame rs = (n : ℕ) (r : Request) (x : ℕ) → nth rs n ≡ Some r → F r ≡ Some x → WasThere n x ⊎ New n x
+
+  came_changed : (f : Request → Request) (rs : List Request) (m : ℕ) → ((r : Request) (x : ℕ) → nth rs m ≡ Some r → F (f r) ≡ Some x → (F r ≡ Some x) ⊎ New m x) → AllCame rs → AllCame (changed_nth f rs m)
+  came_changed f rs m h p n r x is e = go (of_changed f rs m n r is)
+    where
+      go : ((n ≡ m) × (s : Request) × (nth rs m ≡ Some s) × (r ≡ f s)) ⊎ ((n ≡ m → ⊥) × (nth rs n ≡ Some r)) → WasThere n x ⊎ New n x
+      go (inr (d, at)) = p n r x at e
+      go (inl (d, s, at, w)) = which (h s x at (sym (ap F w) ∙ e))
+        where
+          which : (F s ≡ Some x) ⊎ New m x → WasThere n x ⊎ New n x
+          which (inl y) = p n s x (ap (nth rs) d ∙ at) y
+          which (inr y) = inr (subst (λ (k : ℕ). New k x) (sym d) y)
+
+  came_longer : (rs : List Request) (new : Request) → F new ≡ None → AllCame rs → AllCame (rs ++ new ∷ [])
+  came_longer rs new none p n r x is e = go (of_appended rs new r n is)
+    where
+      go : ((n ≡ suc (length rs)) × (r ≡ new)) ⊎ (nth rs n ≡ Some r) → WasThere n x ⊎ New n x
+      go (inl (d, w)) = absurd (none-some x (sym none ∙ sym (ap F w) ∙ e))
+      go (inr at) = p n r x at e
+
+  came_mapped : (f : Request → Request) → ((n : ℕ) (r : Request) (x : ℕ) → nth origin n ≡ Some r → F (f r) ≡ Some x → (F r ≡ Some x) ⊎ New n x) → AllCame (map f origin)
+  came_mapped f h n r x is e = go (of_mapped f origin n r is)
+    where
+      go : (s : Request) × (nth origin n ≡ Some s) × (r ≡ f s) → WasThere n x ⊎ New n x
+      go (s, at, w) = which (h n s x at (sym (ap F w) ∙ e))
+        where
+          which : (F s ≡ Some x) ⊎ New n x → WasThere n x ⊎ New n x
+          which (inl y) = inl (record { row = s; stood = at; had = y })
+          which (inr y) = inr y
+
+  came_through : (f : Request → Request) → ((r : Request) → F (f r) ≡ F r) → (rs : List Request) → AllCame rs → AllCame (map f rs)
+  came_through f h rs p n r x is e = go (of_mapped f rs n r is)
+    where
+      go : (s : Request) × (nth rs n ≡ Some s) × (r ≡ f s) → WasThere n x ⊎ New n x
+      go (s, at, w) = p n s x at (sym (h s) ∙ sym (ap F w) ∙ e)
+
+-- ---- one entry
+
+none_if : (o : Option ℕ) → ((k : ℕ) → o ≡ Some k → ⊥) → o ≡ None
+none_if None h = refl
+none_if (Some k) h = absurd (h k refl)
+
+module _ (settings : Settings) (e : Entry) (origin : State) where
+  abbrev before : State
+  before = with_due_replied settings e.moment origin
+
+  -- decided by this entry, which found it undecided
+  abbrev NewlyDecided : ℕ → ℕ → Type 0
+  NewlyDecided n m = (m ≡ e.moment) × ((s : Request) → nth origin.requests n ≡ Some s → (s.decided ≡ None) × (s.is_cancelled ≡ false))
+
+  abbrev NewlyReplied : ℕ → ℕ → Type 0
+  NewlyReplied n m = (m ≡ e.moment) × ((s : Request) → nth origin.requests n ≡ Some s → (s.replied ≡ None) × (s.is_cancelled ≡ false))
+
+  record BothCame (rs : List Request) : Type 0 where
+    pub decided : AllCame (λ (r : Request). r.decided) NewlyDecided origin.requests rs
+    pub replied : AllCame (λ (r : Request). r.replied) NewlyReplied origin.requests rs
+
+  -- a change that touches neither
+  record Touches (r s : Request) : Type 0 where
+    pub decided : s.decided ≡ r.decided
+    pub replied : s.replied ≡ r.replied
+
+  both_changed : (f : Request → Request) → ((r : Request) → Touches r (f r)) → (rs : List Request) (m : ℕ) → BothCame rs → BothCame (changed_nth f rs m)
+  both_changed f h rs m p = record {
+    decided = came_changed (λ (r : Request). r.decided) NewlyDecided origin.requests f rs m (λ r x is d. inl (sym (h r).decided ∙ d)) p.decided;
+    replied = came_changed (λ (r : Request). r.replied) NewlyReplied origin.requests f rs m (λ r x is d. inl (sym (h r).replied ∙ d)) p.replied;
+  }
+
+  both_longer : (rs : List Request) (new : Request) → new.decided ≡ None → new.replied ≡ None → BothCame rs → BothCame (rs ++ new ∷ [])
+  both_longer rs new d w p = record {
+    decided = came_longer (λ (r : Request). r.decided) NewlyDecided origin.requests rs new d p.decided;
+    replied = came_longer (λ (r : Request). r.replied) NewlyReplied origin.requests rs new w p.replied;
+  }
+
+  late_touches : (db : ℕ) (answer : Answer) (r : Request) → Touches r (with_late_answer db answer r)
+  late_touches db answer r = by_test (Touches r) (is_some r.decided) r (with_answer db answer r) (λ x. record { decided = refl; replied = refl }) (λ x. record { decided = refl; replied = refl })
+
+  cancelled_of_touches : (conn : ℕ) (r : Request) → Touches r (cancelled_of conn r)
+  cancelled_of_touches conn r = by_test (Touches r) (is_of conn r) (cancelled r) r (λ x. record { decided = refl; replied = refl }) (λ x. record { decided = refl; replied = refl })
+
+  end_came : (conn : ℕ) → BothCame before.requests → BothCame (with_end conn before).requests
+  unfolding with_end
+  end_came conn p = record {
+    decided = came_through (λ (r : Request). r.decided) NewlyDecided origin.requests (cancelled_of conn) (λ r. (cancelled_of_touches conn r).decided) before.requests p.decided;
+    replied = came_through (λ (r : Request). r.replied) NewlyReplied origin.requests (cancelled_of conn) (λ r. (cancelled_of_touches conn r).replied) before.requests p.replied;
+  }
+
+  record CameNow (st : State) : Type 0 where
+    pub tables : TablesStand origin st
+    pub came : BothCame st.requests
+
+  abbrev came_now : State → Option ℕ → List ℕ → Type 0
+  came_now st m done = CameNow st
+
+  abbrev came_after : State → Option ℕ → Type 0
+  came_after st m = BothCame st.requests
+
+  stand : HeardParts settings e.moment before e.input (λ st m. TablesStand origin st)
+  stand = heard_stands settings e.moment origin before e.input e.hits
+
+  stand_moved : MovedParts settings e.moment before e.input e.hits (λ st m done. TablesStand origin st) (λ st m. TablesStand origin st)
+  stand_moved = moved_stands settings e.moment origin before e.input e.hits
+
+  heard_came : HeardParts settings e.moment before e.input (λ st m. CameNow st)
+  heard_came = record {
+    opens = λ kind random l p. record { tables = stand.opens kind random l p.tables; came = p.came };
+    tells = λ conn change h p. record { tables = stand.tells conn change h p.tables; came = p.came };
+    ends = λ conn x p. record { tables = stand.ends conn x p.tables; came = end_came conn p.came };
+    cancels = λ n x p. record { tables = stand.cancels n x p.tables; came = both_changed cancelled (λ r. record { decided = refl; replied = refl }) before.requests n p.came };
+    texts = λ conn id random text m r is w p. record { tables = stand.texts conn id random text m r is w p.tables; came = both_changed (with_text text) (λ r. record { decided = refl; replied = refl }) before.requests _ p.came };
+    makes = λ conn id random body m p. record { tables = stand.makes conn id random body m p.tables; came = both_longer before.requests (new_request e.moment conn id random body) refl refl p.came };
+    takes = λ l p. record { tables = stand.takes l p.tables; came = p.came };
+    answers = λ query given a g is run u p. record { tables = stand.answers query given a g is run u p.tables; came = both_changed (with_answer a.question.db _) (λ r. record { decided = refl; replied = refl }) before.requests a.request p.came };
+    lates = λ query given a g is run u p. record { tables = stand.lates query given a g is run u p.tables; came = both_changed (with_late_answer a.question.db _) (late_touches a.question.db _) before.requests a.request p.came };
+  }
+
+  -- the request that is decided was neither decided nor replied nor cancelled before
+  module _ (st : State) (n : ℕ) (r : Request) (is : nth st.requests n ≡ Some r) (u : is_undecided r ≡ true) (p : CameNow st) where
+    uncancelled : r.is_cancelled ≡ false
+    uncancelled = not_true r.is_cancelled (and_first (not r.is_cancelled) _ (and_first (is_pending r) _ u))
+
+    row_stands : (s : Request) → nth origin.requests n ≡ Some s → RequestStands s r
+    row_stands s at = go (p.tables.requests n s at)
+      where
+        go : (t : Request) × (nth st.requests n ≡ Some t) × RequestStands s t → RequestStands s r
+        go (t, there, k) = subst (RequestStands s) (same_Some t r (sym there ∙ is)) k
+
+    not_cancelled : (s : Request) → nth origin.requests n ≡ Some s → s.is_cancelled ≡ false
+    not_cancelled s at = go s.is_cancelled refl
+      where
+        go : (b : Bool) → s.is_cancelled ≡ b → b ≡ false
+        go true d = absurd (true≢false (sym ((row_stands s at).cancelled d) ∙ uncancelled))
+        go false d = refl
+
+    newly_decided : (m : ℕ) → m ≡ e.moment → NewlyDecided n m
+    newly_decided m d = (d, λ s at. (none_if s.decided (λ k x. none-some k (sym (none_there r.decided (undecided_is r u).0) ∙ (row_stands s at).decided k x)), not_cancelled s at))
+
+    newly_replied : (m : ℕ) → m ≡ e.moment → NewlyReplied n m
+    newly_replied m d = (d, λ s at. (none_if s.replied (λ k x. none-some k (sym (none_there r.replied (undecided_is r u).1) ∙ (row_stands s at).replied k x)), not_cancelled s at))
+
+    decision_came : BothCame (changed_nth (with_decision settings e.moment) st.requests n)
+    decision_came = record {
+      decided = came_changed (λ (x : Request). x.decided) NewlyDecided origin.requests (with_decision settings e.moment) st.requests n
+          (λ s x at d. inr (newly_decided x (same_Some x e.moment (sym d ∙ noted s)))) p.came.decided;
+      replied = came_changed (λ (x : Request). x.replied) NewlyReplied origin.requests (with_decision settings e.moment) st.requests n (λ s x at d. told s x d) p.came.replied;
+    }
+      where
+        noted : (s : Request) → (with_decision settings e.moment s).decided ≡ Some e.moment
+        noted s = by_test (λ (x : Request). x.decided ≡ Some e.moment) (is_due settings e.moment (record s { decided = Some e.moment })) _ _ (λ x. refl) (λ x. refl)
+
+        told : (s : Request) (x : ℕ) → (with_decision settings e.moment s).replied ≡ Some x → (s.replied ≡ Some x) ⊎ NewlyReplied n x
+        told s x = by_test (λ (y : Request). y.replied ≡ Some x → (s.replied ≡ Some x) ⊎ NewlyReplied n x) (is_due settings e.moment (record s { decided = Some e.moment }))
+            (record s { decided = Some e.moment; replied = Some e.moment }) (record s { decided = Some e.moment })
+            (λ y d. inr (newly_replied x (sym (same_Some e.moment x d)))) (λ y d. inl d)
+
+  moved_came : MovedParts settings e.moment before e.input e.hits came_now came_after
+  moved_came = record {
+    hit = λ st mover number done rest a p is x w u q. record { tables = stand_moved.hit st mover number done rest a p is x w u q.tables; came = both_changed (with_answer a.question.db p.0) (λ r. record { decided = refl; replied = refl }) st.requests mover q.came };
+    misses = λ st mover number done rest x w q. q;
+    rests = λ st q. q.came;
+    awaits = λ st n r text is u x q. q.came;
+    asks = λ st n r question is u x q. q.came;
+    decides = λ st n r d is u x q. decision_came st n r is u q;
+    kept = λ st m query given a l run is k q. q;
+  }
+
+  due_came : BothCame before.requests
+  unfolding with_due_replied is_due
+  due_came = record {
+    decided = came_mapped (λ (r : Request). r.decided) NewlyDecided origin.requests (replied_if_due settings e.moment)
+        (λ n r x is d. inl (by_test (λ (y : Request). y.decided ≡ Some x → r.decided ≡ Some x) (is_due settings e.moment r) (record r { replied = Some e.moment }) r (λ y z. z) (λ y z. z) d));
+    replied = came_mapped (λ (r : Request). r.replied) NewlyReplied origin.requests (replied_if_due settings e.moment) told;
+  }
+    where
+      told : (n : ℕ) (r : Request) (x : ℕ) → nth origin.requests n ≡ Some r → (replied_if_due settings e.moment r).replied ≡ Some x → (r.replied ≡ Some x) ⊎ NewlyReplied n x
+      told n r x is = by_test (λ (y : Request). y.replied ≡ Some x → (r.replied ≡ Some x) ⊎ NewlyReplied n x) (is_due settings e.moment r) (record r { replied = Some e.moment }) r
+          (λ due d. inr (sym (same_Some e.moment x d), λ s at. held due s (same_Some s r (sym at ∙ is))))
+          (λ y d. inl d)
+        where
+          held : is_due settings e.moment r ≡ true → (s : Request) → s ≡ r → (s.replied ≡ None) × (s.is_cancelled ≡ false)
+          held due s same =
+              (ap (λ (y : Request). y.replied) same ∙ none_there r.replied (not_true (is_some r.replied) (and_second (is_some r.decided && not r.is_cancelled) _ (and_first (is_held r) _ due))),
+              ap (λ (y : Request). y.is_cancelled) same ∙ not_true r.is_cancelled (and_second (is_some r.decided) _ (and_first (is_some r.decided && not r.is_cancelled) _ (and_first (is_held r) _ due))))
+
+  entry_came : BothCame (after settings origin e).requests
+  entry_came = an_entry_gives settings origin e came_now came_after heard_came moved_came (record { tables = due_stand settings e.moment origin; came = due_came })
+
+-- ---- a history
+
+module _ (settings : Settings) where
+  -- at the end of a history, what isn't noted isn't decided by its stage
+  not_decided : (g : List Entry) (n : ℕ) (s : Request) → nth (state settings g).requests n ≡ Some s → s.decided ≡ None → s.is_cancelled ≡ false → is_some (decision settings s) ≡ false
+  not_decided g n s is d c = go (is_some (decision settings s)) refl
+    where
+      go : (b : Bool) → is_some (decision settings s) ≡ b → b ≡ false
+      go true x = absurd (true≢false (sym ((history_noted settings g n s is).noted x c) ∙ ap is_some d))
+      go false x = refl
+
+  decided_by : (h : List Entry) (n m : ℕ) (r : Request) → nth (state settings h).requests n ≡ Some r → r.decided ≡ Some m → WasDecided settings h n m
+  decided_by [] n m r is d = absurd (nowhere n r is)
+  decided_by (e ∷ g) n m r is d = go (decided_by g n m) ((entry_came settings e (state settings g)).decided n r m is d)
+    where
+      go : ((s : Request) → nth (state settings g).requests n ≡ Some s → s.decided ≡ Some m → WasDecided settings g n m) →
+          WasThere (λ (r : Request). r.decided) (NewlyDecided settings e (state settings g)) (state settings g).requests n m ⊎ NewlyDecided settings e (state settings g) n m → WasDecided settings (e ∷ g) n m
+      go earlier (inl w) =
+          let old : WasDecided settings g n m = earlier w.row w.stood w.had in
+          record {
+            entry = old.entry;
+            older = old.older;
+            among = later_among e g old.entry old.older old.among;
+            at_moment = old.at_moment;
+            not_before = old.not_before;
+            request = old.request;
+            stands = old.stands;
+            is_decided = old.is_decided;
+          }
+      go earlier (inr (x, fresh)) = record {
+        entry = e;
+        older = g;
+        among = record { newer = []; stands = refl };
+        at_moment = sym x;
+        not_before = λ s at. not_decided g n s at (fresh s at).0 (fresh s at).1;
+        request = r;
+        stands = is;
+        is_decided = (history_noted settings (e ∷ g) n r is).by_stage (ap is_some d);
+      }
+
+  replied_by : (h : List Entry) (n m : ℕ) (r : Request) → nth (state settings h).requests n ≡ Some r → r.replied ≡ Some m → WasReplied settings h n m
+  replied_by [] n m r is d = absurd (nowhere n r is)
+  replied_by (e ∷ g) n m r is d = go (replied_by g n m) ((entry_came settings e (state settings g)).replied n r m is d)
+    where
+      go : ((s : Request) → nth (state settings g).requests n ≡ Some s → s.replied ≡ Some m → WasReplied settings g n m) →
+          WasThere (λ (r : Request). r.replied) (NewlyReplied settings e (state settings g)) (state settings g).requests n m ⊎ NewlyReplied settings e (state settings g) n m → WasReplied settings (e ∷ g) n m
+      go earlier (inl w) =
+          let old : WasReplied settings g n m = earlier w.row w.stood w.had in
+          record { entry = old.entry; older = old.older; among = later_among e g old.entry old.older old.among; at_moment = old.at_moment; not_before = old.not_before }
+      go earlier (inr (x, fresh)) = record { entry = e; older = g; among = record { newer = []; stands = refl }; at_moment = sym x; not_before = fresh }
+
+pub decided_is_first : DecidedIsFirst
+decided_is_first settings h n m r is d = decided_by settings h n m r is d
+
+pub replied_is_first : RepliedIsFirst
+replied_is_first settings h n m r is d = replied_by settings h n m r is d
