@@ -1,10 +1,10 @@
 -- A connection is open exactly where it was opened and nothing ended it.
-use Rattle.std.proofs.Common.{◌≡◌, ◌⊎◌, inl, inr, refl, sym, ◌∙◌, ap, ap₂, subst, Option, Some, None, List, [], ◌∷◌, ◌++◌, ℕ, zero, suc, Bool, true, false, cond, length, map, not, ◌&&◌, ◌||◌, ◌==◌, option_map, slice_get, eq-eqb, ne_eqb, true≢false}
+use Rattle.std.proofs.Common.{◌≡◌, ◌⊎◌, inl, inr, refl, sym, ◌∙◌, ap, ap₂, subst, Option, Some, None, List, [], ◌∷◌, ◌++◌, ℕ, zero, suc, Bool, true, false, cond, length, map, not, ◌&&◌, ◌||◌, ◌==◌, option_map, eq-eqb, ne_eqb, true≢false}
 use Rattle.std.proofs.lemmas.Bool.{eqb-true}
 use Rattle.std.proofs.lemmas.Option.{none-some, same_Some}
 use Rattle.da_hist.proofs.Entries.{by_test, and_first, and_second, not_true}
 use Rattle.da_hist.proofs.EntryParts.{MovedParts, moved_gives, IsSound, HeardParts, sound_heard}
-use Rattle.da_hist.proofs.Rows.{same_or_not, nth-changed, nth-unchanged, nth-last}
+use Rattle.da_hist.proofs.Rows.{same_or_not, nth-changed, nth-unchanged, nth-last, nth-other}
 use Rattle.da_hist.proofs.Standing.{heard_stands, all_same}
 use Rattle.da_base.specs.Words.{Bytes, hex, nth, changed_nth, passes_option}
 use Rattle.da_fields.specs.declared.answer.Answer.{Answer}
@@ -75,16 +75,6 @@ told_open f h cs c conn = go (same_or_not conn c)
     go : (conn ≡ c) ⊎ (conn ≡ c → ⊥) → open_at (changed_nth f cs c) conn ≡ open_at cs conn
     go (inl d) = ap (open_at (changed_nth f cs c)) d ∙ ap (passes_option (λ x. x.is_open)) (nth-changed f cs c) ∙ same (nth cs c) ∙ ap (open_at cs) (sym d)
     go (inr d) = ap (passes_option (λ x. x.is_open)) (nth-unchanged f cs c conn d)
-
-slice-other : (cs : List Connection) (c : Connection) (n : ℕ) → (n ≡ length cs → ⊥) → slice_get (cs ++ c ∷ []) n ≡ slice_get cs n
-slice-other [] c zero h = absurd (h refl)
-slice-other [] c (suc n) h = refl
-slice-other (d ∷ cs) c zero h = refl
-slice-other (d ∷ cs) c (suc n) h = slice-other cs c n (λ e. h (ap suc e))
-
-nth-other : (cs : List Connection) (c : Connection) (n : ℕ) → (n ≡ suc (length cs) → ⊥) → nth (cs ++ c ∷ []) n ≡ nth cs n
-nth-other cs c zero h = refl
-nth-other cs c (suc n) h = slice-other cs c n (λ e. h (ap suc e))
 
 -- a new connection is open
 opened_open : (cs : List Connection) (c : Connection) (conn : ℕ) → c.is_open ≡ true → open_at (cs ++ c ∷ []) conn ≡ ((suc (length cs) == conn) || open_at cs conn)

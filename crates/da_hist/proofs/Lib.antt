@@ -28,3 +28,6 @@ pub mod Distinct
 pub mod QueryReadings
 pub mod RequestReadings
 pub mod ConnectionReadings
+pub mod HeardTexts
+pub mod HeardAnswers
+pub mod OwnAnswers

@@ -77,6 +77,17 @@ slice-last (y ∷ xs) x = slice-last xs x
 pub nth-last : {A : Type 0} (xs : List A) (x : A) → nth (xs ++ x ∷ []) (suc (length xs)) ≡ Some x
 nth-last xs x = slice-last xs x
 
+slice-beside : {A : Type 0} (xs : List A) (x : A) (n : ℕ) → (n ≡ length xs → ⊥) → slice_get (xs ++ x ∷ []) n ≡ slice_get xs n
+slice-beside [] x zero h = absurd (h refl)
+slice-beside [] x (suc n) h = refl
+slice-beside (y ∷ xs) x zero h = refl
+slice-beside (y ∷ xs) x (suc n) h = slice-beside xs x n (λ e. h (ap suc e))
+
+-- but for the new row a longer table is as it was
+pub nth-other : {A : Type 0} (xs : List A) (x : A) (n : ℕ) → (n ≡ suc (length xs) → ⊥) → nth (xs ++ x ∷ []) n ≡ nth xs n
+nth-other xs x zero h = refl
+nth-other xs x (suc n) h = slice-beside xs x n (λ e. h (ap suc e))
+
 slice-before : {A : Type 0} (xs ys : List A) (y : A) (n : ℕ) → slice_get xs n ≡ Some y → slice_get (xs ++ ys) n ≡ Some y
 slice-before [] ys y n e = absurd (none-some y e)
 slice-before (x ∷ xs) ys y zero e = e

@@ -23,6 +23,7 @@ pub mod StageLaws
 pub mod StandingLaws
 pub mod QueryLaws
 pub mod ReadingLaws
+pub mod HeardLaws
 pub mod CheckLaws
 pub mod GrantLaws
 pub mod SuccessLaws

@@ -7,6 +7,7 @@ ghost use Rattle.da_hist.specs.SuccessLaws.{OkHasItsAnswer};
 ghost use Rattle.da_hist.specs.HitLaws.{HitsAreUnique, HitsAreHits, KeysFit};
 ghost use Rattle.da_hist.specs.CheckLaws.{ChecksAreTests, HintsAreCompared};
 ghost use Rattle.da_hist.specs.ReadingLaws.{DecidedIsFirst, RepliedIsFirst, QueriesAreRead, ConnectionsAreRead};
+ghost use Rattle.da_hist.specs.HeardLaws.{TextsAreHeard, AnswersAreHeard, RecordingsAreHeard};
 ghost use Rattle.da_hist.specs.QueryLaws.{OpenQueriesAreAsked, AnswersAreDistinct};
 ghost use Rattle.da_hist.specs.PlayLaws.{PlaysAreLegal, LegalIsPlayed};
 ghost use Rattle.da_hist.specs.StandingLaws.{WhatIsSettledStands, UsedStaysUsed, DecisionsStand};
@@ -144,4 +145,19 @@ pub fn replied_is_first()
 /// A connection is open exactly where an entry opened it and none after that ended it.
 pub fn connections_are_read()
     ensures { ConnectionsAreRead }
+{}
+
+/// The texts of a request are those of the `CONT` lines that moved it, in order.
+pub fn texts_are_heard()
+    ensures { TextsAreHeard }
+{}
+
+/// The recordings are the queries whose answers may be kept, the last answered first.
+pub fn recordings_are_heard()
+    ensures { RecordingsAreHeard }
+{}
+
+/// In a legal history the answers of a request are those of its own queries and of its hits, in order.
+pub fn answers_are_heard()
+    ensures { AnswersAreHeard }
 {}

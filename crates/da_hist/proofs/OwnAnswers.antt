@@ -1,0 +1,382 @@
+-- The answers of a request are those of its own queries and of its hits, in order.
+use Rattle.std.proofs.Common.{◌≡◌, ◌⊎◌, inl, inr, refl, sym, ◌∙◌, ap, ap₂, subst, Option, Some, None, List, [], ◌∷◌, ◌++◌, ℕ, zero, suc, Bool, true, false, cond, map, length, flat_map, option_map, option_and_then, is_some, not, ◌&&◌, append-nil, append_assoc, ◌==◌, eq-eqb, ne_eqb, true≢false}
+use Rattle.std.proofs.lemmas.Option.{none-some, same_Some}
+use Rattle.da_hist.proofs.Entries.{by_test, and_first, and_second, not_true}
+use Rattle.da_hist.proofs.EntryInduction.{MoverUndecided}
+use Rattle.da_hist.proofs.EntryParts.{HeardParts, MovedParts, IsSound, sound_heard, moved_gives}
+use Rattle.da_hist.proofs.KeysLaw.{IsRecorded, told_is_recorded}
+use Rattle.da_hist.proofs.OpenQueries.{AllAsked, history_asked, due_all_asked, none_there}
+use Rattle.da_hist.proofs.Rows.{same_or_not, nth-changed, nth-unchanged, nth-map, nth-last, nth-other, nth-past, passing}
+use Rattle.da_hist.proofs.Standing.{heard_stands, moved_stands, due_stand, rest_stands, tables_later, all_same}
+use Rattle.da_base.specs.Words.{nth, changed_nth, passes_option, option_or_else}
+use Rattle.da_fields.specs.Answers.{Answers}
+use Rattle.da_fields.specs.declared.answer.Answer.{Answer}
+use Rattle.da_fields.specs.declared.answer.Answer.TheVariants.{Internal}
+use Rattle.da_fields.specs.declared.answer.Why.TheVariants.{Late as WasLate}
+use Rattle.da_hist.specs.HeardLaws.{if_moved, answer_under, told_query, own_answer, answers_heard, AnswersAreHeard}
+use Rattle.da_hist.specs.History.{state, after, heard, with_due_replied, with_decision, replied_if_due, taken}
+use Rattle.da_hist.specs.Hits.{AreHits, IsUsable, with_hit, hit_with, answer_of}
+use Rattle.da_hist.specs.Legal.{IsLegal, MoverHits}
+use Rattle.da_hist.specs.LinesHeard.{new_request, with_text}
+use Rattle.da_hist.specs.Queries.{answered_by, is_running, recorded_answer, with_answer, with_late_answer}
+use Rattle.da_hist.specs.QueryLaws.{IsAsked}
+use Rattle.da_hist.specs.ReadingLaws.{Tells}
+use Rattle.da_hist.specs.Requests.{is_due, is_undecided}
+use Rattle.da_hist.specs.StandingLaws.{TablesStand, QueryStands}
+use Rattle.da_hist.specs.Tables.{Heard, with_end, cancelled, cancelled_of, is_of}
+use Rattle.da_hist.specs.declared.input.Entry.{Entry}
+use Rattle.da_hist.specs.declared.input.Input.{Input}
+use Rattle.da_hist.specs.declared.input.Input.TheVariants.{Opened, Line, Broken, Gone, Take, Answered, Late, Tick}
+use Rattle.da_hist.specs.declared.settings.Settings.{Settings}
+use Rattle.da_hist.specs.declared.state.Asked.{Asked}
+use Rattle.da_hist.specs.declared.state.Question.{Question}
+use Rattle.da_hist.specs.declared.state.Request.{Request}
+use Rattle.da_hist.specs.declared.state.State.{State}
+
+-- ---- the answers of a row
+
+abbrev answers_of : Option Request → Answers
+answers_of o = option_or_else o [] (λ r. r.answers)
+
+abbrev answers_at : List Request → ℕ → Answers
+answers_at rs n = answers_of (nth rs n)
+
+mapped_answers : (f : Request → Request) → ((r : Request) → (f r).answers ≡ r.answers) → (o : Option Request) → answers_of (option_map f o) ≡ answers_of o
+mapped_answers f h None = refl
+mapped_answers f h (Some r) = h r
+
+changed_answers : (f : Request → Request) → ((r : Request) → (f r).answers ≡ r.answers) → (rs : List Request) (m n : ℕ) → answers_at (changed_nth f rs m) n ≡ answers_at rs n
+changed_answers f h rs m n = go (same_or_not n m)
+  where
+    go : (n ≡ m) ⊎ (n ≡ m → ⊥) → answers_at (changed_nth f rs m) n ≡ answers_at rs n
+    go (inl d) = ap (answers_at (changed_nth f rs m)) d ∙ ap answers_of (nth-changed f rs m) ∙ mapped_answers f h (nth rs m) ∙ ap (answers_at rs) (sym d)
+    go (inr d) = ap answers_of (nth-unchanged f rs m n d)
+
+map_answers : (f : Request → Request) → ((r : Request) → (f r).answers ≡ r.answers) → (rs : List Request) (n : ℕ) → answers_at (map f rs) n ≡ answers_at rs n
+map_answers f h rs n = ap answers_of (nth-map f rs n) ∙ mapped_answers f h (nth rs n)
+
+new_answers : (rs : List Request) (r : Request) (n : ℕ) → r.answers ≡ [] → answers_at (rs ++ r ∷ []) n ≡ answers_at rs n
+new_answers rs r n none = go (same_or_not n (suc (length rs)))
+  where
+    nothing : (o : Option Request) → ((q : Request) → o ≡ Some q → ⊥) → [] ≡ answers_of o
+    nothing None h = refl
+    nothing (Some q) h = absurd (h q refl)
+
+    go : (n ≡ suc (length rs)) ⊎ (n ≡ suc (length rs) → ⊥) → answers_at (rs ++ r ∷ []) n ≡ answers_at rs n
+    go (inl d) = ap (answers_at (rs ++ r ∷ [])) d ∙ ap answers_of (nth-last rs r) ∙ none ∙ nothing (nth rs n) (λ q e. nth-past rs q (ap (nth rs) (sym d) ∙ e))
+    go (inr d) = ap answers_of (nth-other rs r n d)
+
+-- one request has one answer more
+abbrev if_same : ℕ → ℕ → Answers → Answers
+if_same m n xs = cond (m == n) xs []
+
+answered_more : (f : Request → Request) (more : Answers) (rs : List Request) (m : ℕ) (r : Request) → nth rs m ≡ Some r → (f r).answers ≡ r.answers ++ more → (n : ℕ) →
+    answers_at (changed_nth f rs m) n ≡ answers_at rs n ++ if_same m n more
+answered_more f more rs m r is h n = go (same_or_not n m)
+  where
+    go : (n ≡ m) ⊎ (n ≡ m → ⊥) → answers_at (changed_nth f rs m) n ≡ answers_at rs n ++ if_same m n more
+    go (inl d) = ap (answers_at (changed_nth f rs m)) d ∙ ap answers_of (nth-changed f rs m ∙ ap (option_map f) is) ∙ h
+        ∙ sym (ap₂ (λ (xs ys : Answers). xs ++ ys) (ap (answers_at rs) d ∙ ap answers_of is) (ap (λ (b : Bool). cond b more []) (eq-eqb m n (sym d))))
+    go (inr d) = ap answers_of (nth-unchanged f rs m n d) ∙ sym (ap (λ (b : Bool). answers_at rs n ++ cond b more []) (ne_eqb m n (λ x. d (sym x))) ∙ append-nil (answers_at rs n))
+
+abbrev under : ℕ → Option (Answer × ℕ) → Answers
+under db o = option_or_else o [] (λ p. (db, p.0) ∷ [])
+
+abbrev no_answers : Bool → Answers
+no_answers b = cond b [] []
+
+-- ---- hits are known
+
+-- the query has an answer
+record IsKnown (st : State) (n : ℕ) : Type 0 where
+  pub row : Asked
+  pub stands : nth st.queries n ≡ Some row
+  pub pair : Answer × ℕ
+  pub is_answered : row.answer ≡ Some pair
+
+abbrev AllKnown : State → List ℕ → Type 0
+AllKnown st [] = Unit {0}
+AllKnown st (n ∷ ns) = IsKnown st n × AllKnown st ns
+
+hits_known : (settings : Settings) (moment : ℕ) (st : State) (r : Request) (ns : List ℕ) → AreHits settings moment st r ns → AllKnown st ns
+hits_known settings moment st r [] h = tt
+hits_known settings moment st r (n ∷ ns) h = (record { row = h.2.query; stands = h.2.stands; pair = (h.2.answer, h.2.recorded); is_answered = h.2.is_recorded }, hits_known settings moment st (with_hit st h.0 n r) ns h.3)
+
+mover_known : (settings : Settings) (moment : ℕ) (st : State) (o : Option Request) (ns : List ℕ) → MoverHits settings moment st o ns → AllKnown st ns
+mover_known settings moment st None ns h = subst (AllKnown st) (sym h) tt
+mover_known settings moment st (Some r) ns h = hits_known settings moment st r ns h
+
+one_known : (st : State) (done rest : List ℕ) (n : ℕ) → AllKnown st (done ++ n ∷ rest) → IsKnown st n
+one_known st [] rest n all = all.0
+one_known st (m ∷ done) rest n all = one_known st done rest n all.1
+
+abbrev told_row : Option Asked → Answers
+told_row o = option_or_else o [] (λ a. option_or_else a.answer [] (λ p. (a.question.db, p.0) ∷ []))
+
+known_under : (qs : List Asked) (k : ℕ) (a : Asked) (p : Answer × ℕ) → nth qs k ≡ Some a → a.answer ≡ Some p → answer_under qs k ≡ (a.question.db, p.0) ∷ []
+known_under qs k a p is e = ap told_row is ∙ ap (λ (o : Option (Answer × ℕ)). option_or_else o [] (λ p. (a.question.db, p.0) ∷ [])) e
+
+-- ---- one entry
+
+module _ (settings : Settings) (e : Entry) (origin : State) where
+  abbrev before : State
+  before = with_due_replied settings e.moment origin
+
+  abbrev h : Heard
+  h = heard settings e.moment e.input before
+
+  -- the answer that the input tells, where its query was one of request n
+  abbrev fresh : State → ℕ → Answers
+  fresh st n = option_or_else (told_query e.input) [] (own_answer before.queries st.queries n)
+
+  unanswered : (a : Asked) → is_running a ≡ true → a.answer ≡ None
+  unanswered a run = none_there a.answer (not_true (is_some a.answer) (and_second (is_some a.taken) _ run))
+
+  -- a query that runs has no answer
+  none_own : (n k : ℕ) → own_answer before.queries before.queries n k ≡ []
+  none_own n k = go (nth before.queries k) refl
+    where
+      by_run : (a : Asked) (b : Bool) → is_running a ≡ b → cond (b && (a.request == n)) (under a.question.db a.answer) [] ≡ []
+      by_run a false x = refl
+      by_run a true x = ap (λ (o : Option (Answer × ℕ)). cond (a.request == n) (under a.question.db o) []) (unanswered a x) ∙ nothing (a.request == n)
+        where
+          nothing : (b : Bool) → no_answers b ≡ []
+          nothing true = refl
+          nothing false = refl
+
+      go : (o : Option Asked) → nth before.queries k ≡ o → cond (passes_option (λ a. is_running a && (a.request == n)) o) (told_row o) [] ≡ []
+      go None x = refl
+      go (Some a) x = by_run a (is_running a) refl
+
+  none_fresh : (n : ℕ) → fresh before n ≡ []
+  none_fresh n = go (told_query e.input)
+    where
+      go : (o : Option ℕ) → option_or_else o [] (own_answer before.queries before.queries n) ≡ []
+      go None = refl
+      go (Some k) = none_own n k
+
+  abbrev Grew : State → Type 0
+  Grew st = (n : ℕ) → answers_at st.requests n ≡ answers_at before.requests n ++ fresh st n
+
+  -- the queries are as they were, and so are the answers of requests
+  same_grew : (rs : List Request) → ((n : ℕ) → answers_at rs n ≡ answers_at before.requests n) → Grew (record before { requests = rs })
+  same_grew rs k n = k n ∙ sym (ap (λ xs. answers_at before.requests n ++ xs) (none_fresh n) ∙ append-nil (answers_at before.requests n))
+
+  told_is : (query : ℕ) (given : Answer) → Tells e.input query given → told_query e.input ≡ Some query
+  told_is query given t = go e.input t
+    where
+      go : (i : Input) → Tells i query given → told_query i ≡ Some query
+      go (Opened kind random) x = absurd x
+      go (Line conn text random) x = absurd x
+      go (Broken conn) x = absurd x
+      go (Gone conn) x = absurd x
+      go Take x = absurd x
+      go (Answered n answer) x = ap (λ (k : ℕ). Some k) x.0
+      go (Late n) x = ap (λ (k : ℕ). Some k) x.0
+      go Tick x = absurd x
+
+  cancelled_answers : (conn : ℕ) (r : Request) → (cancelled_of conn r).answers ≡ r.answers
+  cancelled_answers conn r = by_test (λ (x : Request). x.answers ≡ r.answers) (is_of conn r) (cancelled r) r (λ x. refl) (λ x. refl)
+
+  due_answers : (moment : ℕ) (r : Request) → (replied_if_due settings moment r).answers ≡ r.answers
+  due_answers moment r = by_test (λ (x : Request). x.answers ≡ r.answers) (is_due settings moment r) (record r { replied = Some moment }) r (λ x. refl) (λ x. refl)
+
+  end_grew : (conn : ℕ) → Grew (with_end conn before)
+  unfolding with_end
+  end_grew conn = same_grew (map (cancelled_of conn) before.requests) (map_answers (cancelled_of conn) (cancelled_answers conn) before.requests)
+
+  take_grew : e.input ≡ Take → (qs : List Asked) → Grew (record before { queries = qs })
+  take_grew l qs n = sym (ap (λ (o : Option ℕ). answers_at before.requests n ++ option_or_else o [] (own_answer before.queries qs n)) (ap told_query l) ∙ append-nil (answers_at before.requests n))
+
+  -- an answer is told
+  tell_grew : (query : ℕ) (answer : Answer) (a : Asked) (f : Request → Request) (g : Asked → Asked) → told_query e.input ≡ Some query → nth before.queries query ≡ Some a → is_running a ≡ true →
+      (g a).question ≡ a.question → ((m : ℕ) × ((g a).answer ≡ Some (answer, m))) → (r : Request) → nth before.requests a.request ≡ Some r → (f r).answers ≡ r.answers ++ (a.question.db, answer) ∷ [] →
+      Grew (record before { requests = changed_nth f before.requests a.request; queries = changed_nth g before.queries query })
+  tell_grew query answer a f g told is run q w r at more n =
+      answered_more f ((a.question.db, answer) ∷ []) before.requests a.request r at more n
+      ∙ sym (ap (λ xs. answers_at before.requests n ++ xs) (ap (λ (o : Option ℕ). option_or_else o [] (own_answer before.queries (changed_nth g before.queries query) n)) told
+      ∙ ap (λ (o : Option Asked). cond (passes_option (λ x. is_running x && (x.request == n)) o) (answer_under (changed_nth g before.queries query) query) []) is
+      ∙ ap (λ (b : Bool). cond (b && (a.request == n)) (answer_under (changed_nth g before.queries query) query) []) run
+      ∙ ap (λ (xs : Answers). cond (a.request == n) xs [])
+      (known_under (changed_nth g before.queries query) query (g a) (answer, w.0) (nth-changed g before.queries query ∙ ap (option_map g) is) w.1 ∙ ap (λ (x : Question). (x.db, answer) ∷ []) q)))
+
+  module _ (asked : AllAsked settings before.requests before.queries) where
+    heard_grew : HeardParts settings e.moment before e.input (λ st m. Grew st)
+    heard_grew = record {
+      opens = λ kind random l p. p;
+      tells = λ conn change k p. p;
+      ends = λ conn x p. end_grew conn;
+      cancels = λ n x p. same_grew _ (changed_answers cancelled (λ r. refl) before.requests n);
+      texts = λ conn id random text m r is w p. same_grew _ (changed_answers (with_text text) (λ r. refl) before.requests _);
+      makes = λ conn id random body m p. same_grew _ (λ n. new_answers before.requests (new_request e.moment conn id random body) n refl);
+      takes = λ l p. take_grew l _;
+      answers = λ query given a g is run u p. of_request query a (recorded_answer a.question.kind given) is run (with_answer a.question.db (recorded_answer a.question.kind given)) (λ r d. refl) (told_is query given g);
+      lates = λ query given a g is run u p. of_request query a (recorded_answer a.question.kind given) is run (with_late_answer a.question.db (recorded_answer a.question.kind given))
+          (λ r d. ap (λ (o : Option ℕ). (cond (is_some o) r (with_answer a.question.db (recorded_answer a.question.kind given) r)).answers) d) (told_is query given g);
+    }
+      where
+        of_request : (query : ℕ) (a : Asked) (answer : Answer) → nth before.queries query ≡ Some a → is_running a ≡ true → (f : Request → Request) → ((r : Request) → r.decided ≡ None → (f r).answers ≡ r.answers ++ (a.question.db, answer) ∷ []) →
+            told_query e.input ≡ Some query →
+            Grew (record before { requests = changed_nth f before.requests a.request; queries = changed_nth (answered_by settings e.moment (nth before.requests a.request) answer) before.queries query })
+        of_request query a answer is run f more told =
+            let row : IsAsked settings before.requests before.queries query a = asked query a is (unanswered a run) in
+            tell_grew query answer a f (answered_by settings e.moment (nth before.requests a.request) answer) told is run refl (e.moment, refl) row.request row.stands (more row.request row.is_not_decided)
+
+  -- ---- hits
+
+  module _ (stand : TablesStand origin h.state) (known : AllKnown origin e.hits) where
+    abbrev HasHits : State → Option ℕ → List ℕ → Type 0
+    HasHits st m done = (n : ℕ) → answers_at st.requests n ≡ answers_at h.state.requests n ++ if_moved m n (flat_map (answer_under origin.queries) done)
+
+    record HitsNow (st : State) (m : Option ℕ) (done : List ℕ) : Type 0 where
+      pub tables : TablesStand origin st
+      pub answers : HasHits st m done
+
+    abbrev hits_after : State → Option ℕ → Type 0
+    hits_after st m = HasHits st m e.hits
+
+    moved_stand : MovedParts settings e.moment before e.input e.hits (λ st m done. TablesStand origin st) (λ st m. TablesStand origin st)
+    moved_stand = moved_stands settings e.moment origin before e.input e.hits
+
+    flat-more : (xs : List ℕ) (k : ℕ) → flat_map (answer_under origin.queries) (xs ++ k ∷ []) ≡ flat_map (answer_under origin.queries) xs ++ answer_under origin.queries k
+    flat-more [] k = append-nil (answer_under origin.queries k)
+    flat-more (x ∷ xs) k = ap (λ (ys : Answers). answer_under origin.queries x ++ ys) (flat-more xs k) ∙ sym (append_assoc (answer_under origin.queries x) (flat_map (answer_under origin.queries) xs) (answer_under origin.queries k))
+
+    hit_under : (st : State) (number : ℕ) (a : Asked) (p : Answer × ℕ) → nth st.queries number ≡ Some a → a.answer ≡ Some p → TablesStand origin st → IsKnown origin number → answer_under origin.queries number ≡ (a.question.db, p.0) ∷ []
+    hit_under st number a p is x t k = go (t.queries number k.row k.stands)
+      where
+        go : (c : Asked) × (nth st.queries number ≡ Some c) × QueryStands k.row c → answer_under origin.queries number ≡ (a.question.db, p.0) ∷ []
+        go (c, at, s) =
+            let same : c ≡ a = same_Some c a (sym at ∙ is) in
+            let pair : k.pair ≡ p = same_Some k.pair p (sym (s.answer k.pair k.is_answered) ∙ ap (λ (y : Asked). y.answer) same ∙ x) in
+            known_under origin.queries number k.row k.pair k.stands k.is_answered
+            ∙ ap₂ (λ (q : Question) (y : Answer × ℕ). (q.db, y.0) ∷ []) (sym s.question ∙ ap (λ (y : Asked). y.question) same) pair
+
+    hit_answers : (st : State) (mover number : ℕ) (done : List ℕ) (a : Asked) (p : Answer × ℕ) → IsKnown origin number → nth st.queries number ≡ Some a → a.answer ≡ Some p → (r : Request) → nth st.requests mover ≡ Some r →
+        HitsNow st (Some mover) done → HasHits (hit_with settings mover number a p.0 st) (Some mover) (done ++ number ∷ [])
+    hit_answers st mover number done a p k is x r at q n =
+        answered_more (with_answer a.question.db p.0) ((a.question.db, p.0) ∷ []) st.requests mover r at refl n
+        ∙ ap (λ (xs : Answers). xs ++ if_same mover n ((a.question.db, p.0) ∷ [])) (q.answers n)
+        ∙ append_assoc (answers_at h.state.requests n) (if_same mover n (flat_map (answer_under origin.queries) done)) (if_same mover n ((a.question.db, p.0) ∷ []))
+        ∙ ap (λ (xs : Answers). answers_at h.state.requests n ++ xs) (joined (mover == n)
+        ∙ ap (λ (xs : Answers). cond (mover == n) (flat_map (answer_under origin.queries) done ++ xs) []) (sym (hit_under st number a p is x q.tables k))
+        ∙ ap (λ (xs : Answers). cond (mover == n) xs []) (sym (flat-more done number)))
+      where
+        joined : (b : Bool) → cond b (flat_map (answer_under origin.queries) done) [] ++ cond b ((a.question.db, p.0) ∷ []) [] ≡ cond b (flat_map (answer_under origin.queries) done ++ (a.question.db, p.0) ∷ []) []
+        joined true = refl
+        joined false = refl
+
+    moved_hits : MovedParts settings e.moment before e.input e.hits HitsNow hits_after
+    moved_hits = record {
+      hit = λ st mover number done rest a p is x w u q. record {
+        tables = moved_stand.hit st mover number done rest a p is x w u q.tables;
+        answers = of_mover st mover number done rest a p is x w q (passing is_undecided (nth st.requests mover) u);
+      };
+      misses = λ st mover number done rest x w q. absurd (missed st number done rest x w q.tables);
+      rests = λ st q. none st q.answers;
+      awaits = λ st n r text is u x q. q.answers;
+      asks = λ st n r question is u x q. q.answers;
+      decides = λ st k r d is u x q n. changed_answers (with_decision settings e.moment) (λ s. due_answers e.moment (record s { decided = Some e.moment })) st.requests k n ∙ q.answers n;
+      kept = λ st m query given a l run is k q. q;
+    }
+      where
+        of_mover : (st : State) (mover number : ℕ) (done rest : List ℕ) (a : Asked) (p : Answer × ℕ) → nth st.queries number ≡ Some a → a.answer ≡ Some p → done ++ number ∷ rest ≡ e.hits → HitsNow st (Some mover) done →
+            (r : Request) × (nth st.requests mover ≡ Some r) × (is_undecided r ≡ true) → HasHits (hit_with settings mover number a p.0 st) (Some mover) (done ++ number ∷ [])
+        of_mover st mover number done rest a p is x w q (r, at, u) = hit_answers st mover number done a p (one_known origin done rest number (subst (AllKnown origin) (sym w) known)) is x r at q
+
+        missed : (st : State) (number : ℕ) (done rest : List ℕ) → answer_of st number ≡ None → done ++ number ∷ rest ≡ e.hits → TablesStand origin st → ⊥
+        missed st number done rest x w t = go (one_known origin done rest number (subst (AllKnown origin) (sym w) known))
+          where
+            go : IsKnown origin number → ⊥
+            go k = later (t.queries number k.row k.stands)
+              where
+                later : (c : Asked) × (nth st.queries number ≡ Some c) × QueryStands k.row c → ⊥
+                later (c, y, s) = none-some k.pair.0 (sym x ∙ ap (option_and_then (λ (z : Asked). option_map (λ (w : Answer × ℕ). w.0) z.answer)) y ∙ ap (option_map (λ (z : Answer × ℕ). z.0)) (s.answer k.pair k.is_answered))
+
+        none : (st : State) → HasHits st None [] → HasHits st None e.hits
+        none st q = q
+
+    -- what was told stands after the entry
+    still_own : (k n : ℕ) → ((given : Answer) → Tells e.input k given → (a : Asked) → nth before.queries k ≡ Some a → is_running a ≡ true → answer_under h.state.queries k ≡ answer_under (after settings origin e).queries k) →
+        told_query e.input ≡ Some k → own_answer before.queries h.state.queries n k ≡ own_answer before.queries (after settings origin e).queries n k
+    still_own k n same told = go (nth before.queries k) refl
+      where
+        given_of : (i : Input) → told_query i ≡ Some k → (given : Answer) × Tells i k given
+        given_of (Opened kind random) x = absurd (none-some k x)
+        given_of (Line conn text random) x = absurd (none-some k x)
+        given_of (Broken conn) x = absurd (none-some k x)
+        given_of (Gone conn) x = absurd (none-some k x)
+        given_of Take x = absurd (none-some k x)
+        given_of (Answered m answer) x = (answer, (same_Some m k x, refl))
+        given_of (Late m) x = (Internal WasLate, (same_Some m k x, refl))
+        given_of Tick x = absurd (none-some k x)
+
+        by_run : (a : Asked) → nth before.queries k ≡ Some a → (b : Bool) → is_running a ≡ b →
+            cond (b && (a.request == n)) (answer_under h.state.queries k) [] ≡ cond (b && (a.request == n)) (answer_under (after settings origin e).queries k) []
+        by_run a is false x = refl
+        by_run a is true x = let t : (given : Answer) × Tells e.input k given = given_of e.input told in ap (λ (xs : Answers). cond (a.request == n) xs []) (same t.0 t.1 a is x)
+
+        go : (o : Option Asked) → nth before.queries k ≡ o → cond (passes_option (λ a. is_running a && (a.request == n)) o) (answer_under h.state.queries k) [] ≡ cond (passes_option (λ a. is_running a && (a.request == n)) o) (answer_under (after settings origin e).queries k) []
+        go None x = refl
+        go (Some a) x = by_run a x (is_running a) refl
+
+    told_stands : (k : ℕ) (given : Answer) → Tells e.input k given → (a : Asked) → nth before.queries k ≡ Some a → is_running a ≡ true → answer_under h.state.queries k ≡ answer_under (after settings origin e).queries k
+    told_stands k given t a is run = go (told_is_recorded settings e.moment k given before a is run e.input t)
+      where
+        go : IsRecorded h.state.queries k a (recorded_answer a.question.kind given) e.moment → answer_under h.state.queries k ≡ answer_under (after settings origin e).queries k
+        go i = later ((rest_stands settings origin e).queries k i.row i.stands)
+          where
+            later : (c : Asked) × (nth (after settings origin e).queries k ≡ Some c) × QueryStands i.row c → answer_under h.state.queries k ≡ answer_under (after settings origin e).queries k
+            later (c, at, s) = known_under h.state.queries k i.row _ i.stands i.is_recorded
+                ∙ ap (λ (q : Question). (q.db, recorded_answer a.question.kind given) ∷ []) (sym s.question) ∙ sym (known_under (after settings origin e).queries k c _ at (s.answer _ i.is_recorded))
+
+    fresh_after : (n : ℕ) → fresh h.state n ≡ fresh (after settings origin e) n
+    fresh_after n = go (told_query e.input) refl
+      where
+        go : (o : Option ℕ) → told_query e.input ≡ o → option_or_else o [] (own_answer before.queries h.state.queries n) ≡ option_or_else o [] (own_answer before.queries (after settings origin e).queries n)
+        go None x = refl
+        go (Some k) x = still_own k n (told_stands k) x
+
+    entry_answers : AllAsked settings before.requests before.queries → (n : ℕ) →
+        answers_at (after settings origin e).requests n ≡ answers_at before.requests n ++ fresh (after settings origin e) n ++ if_moved h.mover n (flat_map (answer_under origin.queries) e.hits)
+    unfolding after
+    entry_answers asked n =
+        let s : IsSound settings e.moment before e.input (λ st m. Grew st) (heard_grew asked) h = sound_heard settings e.moment before e.input (λ st m. Grew st) (heard_grew asked) e.input refl
+            (λ m. sym (ap (λ xs. answers_at before.requests m ++ xs) (none_fresh m) ∙ append-nil (answers_at before.requests m))) in
+        moved_gives settings e.moment before e.input e.hits HitsNow hits_after moved_hits h (record { tables = stand; answers = λ m. sym (nothing h.mover m) }) s.mover n
+        ∙ ap (λ (xs : Answers). xs ++ if_moved h.mover n (flat_map (answer_under origin.queries) e.hits)) (s.fact n ∙ ap (λ (xs : Answers). answers_at before.requests n ++ xs) (fresh_after n))
+      where
+        nothing : (o : Option ℕ) (m : ℕ) → answers_at h.state.requests m ++ if_moved o m [] ≡ answers_at h.state.requests m
+        nothing o m = ap (λ (xs : Answers). answers_at h.state.requests m ++ xs) (empty (passes_option (λ k. k == m) o)) ∙ append-nil (answers_at h.state.requests m)
+          where
+            empty : (b : Bool) → no_answers b ≡ []
+            empty true = refl
+            empty false = refl
+
+-- ---- a legal history
+
+one_entry : (settings : Settings) (e : Entry) (st : State) → AllAsked settings st.requests st.queries →
+    MoverHits settings e.moment st (option_and_then (nth (heard settings e.moment e.input (with_due_replied settings e.moment st)).state.requests) (heard settings e.moment e.input (with_due_replied settings e.moment st)).mover) e.hits →
+    (n : ℕ) → answers_at (after settings st e).requests n
+    ≡ answers_at st.requests n ++ option_or_else (told_query e.input) [] (own_answer st.queries (after settings st e).queries n)
+    ++ if_moved (heard settings e.moment e.input (with_due_replied settings e.moment st)).mover n (flat_map (answer_under st.queries) e.hits)
+unfolding with_due_replied
+one_entry settings e st asked hits n =
+    let before : State = with_due_replied settings e.moment st in
+    let h : Heard = heard settings e.moment e.input before in
+    let s : IsSound settings e.moment before e.input (λ x m. TablesStand before x) _ h =
+        sound_heard settings e.moment before e.input (λ x m. TablesStand before x) (heard_stands settings e.moment before before e.input e.hits) e.input refl (all_same before) in
+    entry_answers settings e st (tables_later st before h.state (due_stand settings e.moment st) s.fact) (mover_known settings e.moment st _ e.hits hits) (due_all_asked settings e.moment st asked) n
+    ∙ ap (λ (xs : Answers). xs ++ option_or_else (told_query e.input) [] (own_answer st.queries (after settings st e).queries n) ++ if_moved h.mover n (flat_map (answer_under st.queries) e.hits))
+    (map_answers (replied_if_due settings e.moment) (due_answers settings e st e.moment) st.requests n)
+
+all_answers : (settings : Settings) (h : List Entry) → IsLegal settings h → (n : ℕ) → answers_at (state settings h).requests n ≡ answers_heard settings h n
+all_answers settings [] legal zero = refl
+all_answers settings [] legal (suc n) = refl
+all_answers settings (e ∷ g) legal n =
+    one_entry settings e (state settings g) (history_asked settings g) legal.1.hits n
+    ∙ ap (λ (xs : Answers). xs ++ option_or_else (told_query e.input) [] (own_answer (state settings g).queries (after settings (state settings g) e).queries n)
+    ++ if_moved (heard settings e.moment e.input (with_due_replied settings e.moment (state settings g))).mover n (flat_map (answer_under (state settings g).queries) e.hits)) (all_answers settings g legal.0 n)
+
+pub answers_are_heard : AnswersAreHeard
+answers_are_heard settings h legal n r is = sym (ap answers_of is) ∙ all_answers settings h legal n

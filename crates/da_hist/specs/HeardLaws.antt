@@ -1,0 +1,102 @@
+-- Laws that read what was heard of requests and answers, in order.
+use Rattle.std.specs.Prelude.{◌≡◌, ℕ, Bool, ◌&&◌, List, [], ◌∷◌, ◌++◌, Option, Some, None, flat_map, option_and_then, if◌then◌else◌, ◌==◌}
+use Rattle.da_base.specs.Words.{Bytes, nth, passes_option, option_or_else}
+use Rattle.da_fields.specs.Answers.{Answers}
+use Rattle.da_fields.specs.declared.answer.Answer.{Answer}
+use Rattle.da_msgs.specs.ClientMessages.{client_message}
+use Rattle.da_msgs.specs.declared.client.ClientMsg.{ClientMsg}
+use Rattle.da_msgs.specs.declared.client.ClientMsg.TheVariants.{Cont}
+use Rattle.da_hist.specs.declared.input.Entry.{Entry}
+use Rattle.da_hist.specs.declared.input.Input.{Input}
+use Rattle.da_hist.specs.declared.input.Input.TheVariants.{Line, Answered, Late}
+use Rattle.da_hist.specs.declared.settings.Settings.{Settings}
+use Rattle.da_hist.specs.declared.state.Asked.{Asked}
+use Rattle.da_hist.specs.declared.state.Body.{Body}
+use Rattle.da_hist.specs.declared.state.Body.TheVariants.{Authenticates, LooksUp}
+use Rattle.da_hist.specs.declared.state.Connection.{Connection}
+use Rattle.da_hist.specs.declared.state.Request.{Request}
+use Rattle.da_hist.specs.Tables.{is_client}
+use Rattle.da_hist.specs.Queries.{is_running, is_kept, recorded_answer}
+use Rattle.da_hist.specs.History.{state, heard, with_due_replied}
+use Rattle.da_hist.specs.Legal.{IsLegal}
+
+-- ---- the request that an entry moves
+
+abbrev pub mover : Settings → List Entry → Entry → Option ℕ
+mover settings g e = (heard settings e.moment e.input (with_due_replied settings e.moment (state settings g))).mover
+
+-- these, where it is request n that moves
+abbrev pub if_moved : {A : Type 0} → Option ℕ → ℕ → List A → List A
+if_moved moved n xs = if passes_option (λ m. m == n) moved then xs else []
+
+-- ---- texts
+
+-- the message of a client that an input spells
+abbrev pub message_in : List Connection → Input → Option ClientMsg
+message_in connections (Line conn text random) = option_and_then (λ c. if is_client c.kind then client_message text else None) (nth connections conn)
+message_in connections _ = None
+
+abbrev pub continued_text : Option ClientMsg → List Bytes
+continued_text (Some (Cont id text)) = text ∷ []
+continued_text _ = []
+
+-- the texts of the CONT lines that moved request n, in order
+abbrev pub texts_heard : Settings → List Entry → ℕ → List Bytes
+texts_heard settings [] n = []
+texts_heard settings (e ∷ g) n =
+    texts_heard settings g n ++ if_moved (mover settings g e) n (continued_text (message_in (state settings g).connections e.input))
+
+abbrev pub texts_in : Body → List Bytes
+texts_in (Authenticates mech params resp texts) = texts
+texts_in (LooksUp grant) = []
+
+-- the texts of a request are those of the CONT lines that moved it, in order
+abbrev pub TextsAreHeard : Type 0
+TextsAreHeard = (settings : Settings) (h : List Entry) (n : ℕ) (r : Request) → nth (state settings h).requests n ≡ Some r → texts_in r.body ≡ texts_heard settings h n
+
+-- ---- answers
+
+-- the answer of query k, under its database
+abbrev pub answer_under : List Asked → ℕ → Answers
+answer_under queries k = option_or_else (nth queries k) [] (λ a. option_or_else a.answer [] (λ p. (a.question.db, p.0) ∷ []))
+
+-- the query whose answer an input tells, if it tells one
+abbrev pub told_query : Input → Option ℕ
+told_query (Answered k answer) = Some k
+told_query (Late k) = Some k
+told_query _ = None
+
+-- the answer of query k after an entry, where it ran before as a query of request n
+abbrev pub own_answer : List Asked → List Asked → ℕ → ℕ → Answers
+own_answer before after n k = if passes_option (λ a. is_running a && (a.request == n)) (nth before k) then answer_under after k else []
+
+-- the answers of the queries of request n and of the hits of the entries that moved it, in order
+abbrev pub answers_heard : Settings → List Entry → ℕ → Answers
+answers_heard settings [] n = []
+answers_heard settings (e ∷ g) n =
+    answers_heard settings g n
+    ++ option_or_else (told_query e.input) [] (own_answer (state settings g).queries (state settings (e ∷ g)).queries n)
+    ++ if_moved (mover settings g e) n (flat_map (answer_under (state settings g).queries) e.hits)
+
+-- in a legal history the answers of a request are those of its own queries and of its hits, in order
+abbrev pub AnswersAreHeard : Type 0
+AnswersAreHeard =
+    (settings : Settings) (h : List Entry) → IsLegal settings h → (n : ℕ) (r : Request) → nth (state settings h).requests n ≡ Some r →
+    r.answers ≡ answers_heard settings h n
+
+-- ---- recordings
+
+-- the query that an input answers, where it ran and its answer may be kept
+abbrev pub kept_query : List Asked → Input → List ℕ
+kept_query queries (Answered k given) =
+    option_or_else (nth queries k) [] (λ a. if is_running a && is_kept a.question.kind (recorded_answer a.question.kind given) then (k ∷ []) else [])
+kept_query queries _ = []
+
+-- the queries that were answered so, the last first
+abbrev pub queries_kept : Settings → List Entry → List ℕ
+queries_kept settings [] = []
+queries_kept settings (e ∷ g) = kept_query (state settings g).queries e.input ++ queries_kept settings g
+
+-- the recordings are the queries whose answers may be kept, the last first
+abbrev pub RecordingsAreHeard : Type 0
+RecordingsAreHeard = (settings : Settings) (h : List Entry) → (state settings h).recordings ≡ queries_kept settings h
