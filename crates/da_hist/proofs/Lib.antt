@@ -31,3 +31,4 @@ pub mod ConnectionReadings
 pub mod HeardTexts
 pub mod HeardAnswers
 pub mod OwnAnswers
+pub mod HeardTests

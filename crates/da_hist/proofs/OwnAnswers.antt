@@ -88,13 +88,13 @@ no_answers b = cond b [] []
 -- ---- hits are known
 
 -- the query has an answer
-record IsKnown (st : State) (n : ℕ) : Type 0 where
+pub record IsKnown (st : State) (n : ℕ) : Type 0 where
   pub row : Asked
   pub stands : nth st.queries n ≡ Some row
   pub pair : Answer × ℕ
   pub is_answered : row.answer ≡ Some pair
 
-abbrev AllKnown : State → List ℕ → Type 0
+abbrev pub AllKnown : State → List ℕ → Type 0
 AllKnown st [] = Unit {0}
 AllKnown st (n ∷ ns) = IsKnown st n × AllKnown st ns
 
@@ -102,19 +102,41 @@ hits_known : (settings : Settings) (moment : ℕ) (st : State) (r : Request) (ns
 hits_known settings moment st r [] h = tt
 hits_known settings moment st r (n ∷ ns) h = (record { row = h.2.query; stands = h.2.stands; pair = (h.2.answer, h.2.recorded); is_answered = h.2.is_recorded }, hits_known settings moment st (with_hit st h.0 n r) ns h.3)
 
-mover_known : (settings : Settings) (moment : ℕ) (st : State) (o : Option Request) (ns : List ℕ) → MoverHits settings moment st o ns → AllKnown st ns
+pub mover_known : (settings : Settings) (moment : ℕ) (st : State) (o : Option Request) (ns : List ℕ) → MoverHits settings moment st o ns → AllKnown st ns
 mover_known settings moment st None ns h = subst (AllKnown st) (sym h) tt
 mover_known settings moment st (Some r) ns h = hits_known settings moment st r ns h
 
-one_known : (st : State) (done rest : List ℕ) (n : ℕ) → AllKnown st (done ++ n ∷ rest) → IsKnown st n
+pub one_known : (st : State) (done rest : List ℕ) (n : ℕ) → AllKnown st (done ++ n ∷ rest) → IsKnown st n
 one_known st [] rest n all = all.0
 one_known st (m ∷ done) rest n all = one_known st done rest n all.1
 
 abbrev told_row : Option Asked → Answers
 told_row o = option_or_else o [] (λ a. option_or_else a.answer [] (λ p. (a.question.db, p.0) ∷ []))
 
-known_under : (qs : List Asked) (k : ℕ) (a : Asked) (p : Answer × ℕ) → nth qs k ≡ Some a → a.answer ≡ Some p → answer_under qs k ≡ (a.question.db, p.0) ∷ []
+pub known_under : (qs : List Asked) (k : ℕ) (a : Asked) (p : Answer × ℕ) → nth qs k ≡ Some a → a.answer ≡ Some p → answer_under qs k ≡ (a.question.db, p.0) ∷ []
 known_under qs k a p is e = ap told_row is ∙ ap (λ (o : Option (Answer × ℕ)). option_or_else o [] (λ p. (a.question.db, p.0) ∷ [])) e
+
+-- an input that tells an answer names its query
+pub told_given : (i : Input) (query : ℕ) (given : Answer) → Tells i query given → told_query i ≡ Some query
+told_given (Opened kind random) query given x = absurd x
+told_given (Line conn text random) query given x = absurd x
+told_given (Broken conn) query given x = absurd x
+told_given (Gone conn) query given x = absurd x
+told_given Take query given x = absurd x
+told_given (Answered n answer) query given x = ap (λ (k : ℕ). Some k) x.0
+told_given (Late n) query given x = ap (λ (k : ℕ). Some k) x.0
+told_given Tick query given x = absurd x
+
+-- and the answer
+pub given_of : (i : Input) (query : ℕ) → told_query i ≡ Some query → (given : Answer) × Tells i query given
+given_of (Opened kind random) query x = absurd (none-some query x)
+given_of (Line conn text random) query x = absurd (none-some query x)
+given_of (Broken conn) query x = absurd (none-some query x)
+given_of (Gone conn) query x = absurd (none-some query x)
+given_of Take query x = absurd (none-some query x)
+given_of (Answered m answer) query x = (answer, (same_Some m query x, refl))
+given_of (Late m) query x = (Internal WasLate, (same_Some m query x, refl))
+given_of Tick query x = absurd (none-some query x)
 
 -- ---- one entry
 
@@ -162,19 +184,6 @@ module _ (settings : Settings) (e : Entry) (origin : State) where
   same_grew : (rs : List Request) → ((n : ℕ) → answers_at rs n ≡ answers_at before.requests n) → Grew (record before { requests = rs })
   same_grew rs k n = k n ∙ sym (ap (λ xs. answers_at before.requests n ++ xs) (none_fresh n) ∙ append-nil (answers_at before.requests n))
 
-  told_is : (query : ℕ) (given : Answer) → Tells e.input query given → told_query e.input ≡ Some query
-  told_is query given t = go e.input t
-    where
-      go : (i : Input) → Tells i query given → told_query i ≡ Some query
-      go (Opened kind random) x = absurd x
-      go (Line conn text random) x = absurd x
-      go (Broken conn) x = absurd x
-      go (Gone conn) x = absurd x
-      go Take x = absurd x
-      go (Answered n answer) x = ap (λ (k : ℕ). Some k) x.0
-      go (Late n) x = ap (λ (k : ℕ). Some k) x.0
-      go Tick x = absurd x
-
   cancelled_answers : (conn : ℕ) (r : Request) → (cancelled_of conn r).answers ≡ r.answers
   cancelled_answers conn r = by_test (λ (x : Request). x.answers ≡ r.answers) (is_of conn r) (cancelled r) r (λ x. refl) (λ x. refl)
 
@@ -210,9 +219,9 @@ module _ (settings : Settings) (e : Entry) (origin : State) where
       texts = λ conn id random text m r is w p. same_grew _ (changed_answers (with_text text) (λ r. refl) before.requests _);
       makes = λ conn id random body m p. same_grew _ (λ n. new_answers before.requests (new_request e.moment conn id random body) n refl);
       takes = λ l p. take_grew l _;
-      answers = λ query given a g is run u p. of_request query a (recorded_answer a.question.kind given) is run (with_answer a.question.db (recorded_answer a.question.kind given)) (λ r d. refl) (told_is query given g);
+      answers = λ query given a g is run u p. of_request query a (recorded_answer a.question.kind given) is run (with_answer a.question.db (recorded_answer a.question.kind given)) (λ r d. refl) (told_given e.input query given g);
       lates = λ query given a g is run u p. of_request query a (recorded_answer a.question.kind given) is run (with_late_answer a.question.db (recorded_answer a.question.kind given))
-          (λ r d. ap (λ (o : Option ℕ). (cond (is_some o) r (with_answer a.question.db (recorded_answer a.question.kind given) r)).answers) d) (told_is query given g);
+          (λ r d. ap (λ (o : Option ℕ). (cond (is_some o) r (with_answer a.question.db (recorded_answer a.question.kind given) r)).answers) d) (told_given e.input query given g);
     }
       where
         of_request : (query : ℕ) (a : Asked) (answer : Answer) → nth before.queries query ≡ Some a → is_running a ≡ true → (f : Request → Request) → ((r : Request) → r.decided ≡ None → (f r).answers ≡ r.answers ++ (a.question.db, answer) ∷ []) →
@@ -301,20 +310,10 @@ module _ (settings : Settings) (e : Entry) (origin : State) where
         told_query e.input ≡ Some k → own_answer before.queries h.state.queries n k ≡ own_answer before.queries (after settings origin e).queries n k
     still_own k n same told = go (nth before.queries k) refl
       where
-        given_of : (i : Input) → told_query i ≡ Some k → (given : Answer) × Tells i k given
-        given_of (Opened kind random) x = absurd (none-some k x)
-        given_of (Line conn text random) x = absurd (none-some k x)
-        given_of (Broken conn) x = absurd (none-some k x)
-        given_of (Gone conn) x = absurd (none-some k x)
-        given_of Take x = absurd (none-some k x)
-        given_of (Answered m answer) x = (answer, (same_Some m k x, refl))
-        given_of (Late m) x = (Internal WasLate, (same_Some m k x, refl))
-        given_of Tick x = absurd (none-some k x)
-
         by_run : (a : Asked) → nth before.queries k ≡ Some a → (b : Bool) → is_running a ≡ b →
             cond (b && (a.request == n)) (answer_under h.state.queries k) [] ≡ cond (b && (a.request == n)) (answer_under (after settings origin e).queries k) []
         by_run a is false x = refl
-        by_run a is true x = let t : (given : Answer) × Tells e.input k given = given_of e.input told in ap (λ (xs : Answers). cond (a.request == n) xs []) (same t.0 t.1 a is x)
+        by_run a is true x = let t : (given : Answer) × Tells e.input k given = given_of e.input k told in ap (λ (xs : Answers). cond (a.request == n) xs []) (same t.0 t.1 a is x)
 
         go : (o : Option Asked) → nth before.queries k ≡ o → cond (passes_option (λ a. is_running a && (a.request == n)) o) (answer_under h.state.queries k) [] ≡ cond (passes_option (λ a. is_running a && (a.request == n)) o) (answer_under (after settings origin e).queries k) []
         go None x = refl

@@ -1,5 +1,5 @@
 -- Laws that read what was heard of requests and answers, in order.
-use Rattle.std.specs.Prelude.{◌≡◌, ℕ, Bool, ◌&&◌, List, [], ◌∷◌, ◌++◌, Option, Some, None, flat_map, option_and_then, if◌then◌else◌, ◌==◌}
+use Rattle.std.specs.Prelude.{◌≡◌, ℕ, Bool, ◌&&◌, option_to_list, List, [], ◌∷◌, ◌++◌, Option, Some, None, flat_map, option_and_then, if◌then◌else◌, ◌==◌}
 use Rattle.da_base.specs.Words.{Bytes, nth, passes_option, option_or_else}
 use Rattle.da_fields.specs.Answers.{Answers}
 use Rattle.da_fields.specs.declared.answer.Answer.{Answer}
@@ -14,9 +14,11 @@ use Rattle.da_hist.specs.declared.state.Asked.{Asked}
 use Rattle.da_hist.specs.declared.state.Body.{Body}
 use Rattle.da_hist.specs.declared.state.Body.TheVariants.{Authenticates, LooksUp}
 use Rattle.da_hist.specs.declared.state.Connection.{Connection}
+use Rattle.da_hist.specs.declared.state.Question.{Question}
 use Rattle.da_hist.specs.declared.state.Request.{Request}
 use Rattle.da_hist.specs.Tables.{is_client}
-use Rattle.da_hist.specs.Queries.{is_running, is_kept, recorded_answer}
+use Rattle.da_hist.specs.Queries.{is_running, is_kept, recorded_answer, use_test}
+use Rattle.da_hist.specs.Hits.{hit_test}
 use Rattle.da_hist.specs.History.{state, heard, with_due_replied}
 use Rattle.da_hist.specs.Legal.{IsLegal}
 
@@ -100,3 +102,52 @@ queries_kept settings (e ∷ g) = kept_query (state settings g).queries e.input 
 -- the recordings are the queries whose answers may be kept, the last first
 abbrev pub RecordingsAreHeard : Type 0
 RecordingsAreHeard = (settings : Settings) (h : List Entry) → (state settings h).recordings ≡ queries_kept settings h
+
+-- ---- what uses of an answer found
+
+-- the request that an entry moves, with what its input told
+abbrev pub moved_request : Settings → List Entry → Entry → Option Request
+moved_request settings g e =
+    option_and_then (nth (heard settings e.moment e.input (with_due_replied settings e.moment (state settings g))).state.requests) (mover settings g e)
+
+abbrev pub use_by : Settings → Option Request → Question → Answer → Option Bool
+use_by settings None q answer = None
+use_by settings (Some r) q answer = use_test settings r q answer
+
+-- what the own use of a query's answer found, if it checked a password
+abbrev pub own_use : Settings → List Request → Option Asked → List Bool
+own_use settings requests None = []
+own_use settings requests (Some a) = option_or_else a.answer [] (λ p. option_to_list (use_by settings (nth requests a.request) a.question p.0))
+
+-- the same of query k, where an input tells the answer of query j, which ran before
+abbrev pub own_tests : Settings → List Request → List Asked → List Asked → ℕ → ℕ → List Bool
+own_tests settings requests before after k j = if passes_option is_running (nth before j) && (j == k) then own_use settings requests (nth after j) else []
+
+-- the request with the answers of one hit more
+abbrev pub with_one_hit : List Asked → Request → ℕ → Request
+with_one_hit queries r n = record r { answers = r.answers ++ answer_under queries n }
+
+-- what the request's use of a hit found, if it checked a password
+abbrev pub hit_use : Settings → Request → Option Asked → List Bool
+hit_use settings r None = []
+hit_use settings r (Some a) = option_or_else a.answer [] (λ p. option_to_list (hit_test settings p.0 (Some r)))
+
+-- what the uses of query k among these hits found, the last first
+abbrev pub hit_tests : Settings → List Asked → Request → List ℕ → ℕ → List Bool
+hit_tests settings queries r [] k = []
+hit_tests settings queries r (n ∷ ns) k =
+    hit_tests settings queries (with_one_hit queries r n) ns k ++ (if n == k then hit_use settings r (nth queries n) else [])
+
+-- what the uses of the answer of query k found, the last first: its own, and those of the hits
+abbrev pub uses_heard : Settings → List Entry → ℕ → List Bool
+uses_heard settings [] k = []
+uses_heard settings (e ∷ g) k =
+    option_or_else (moved_request settings g e) [] (λ r. hit_tests settings (state settings g).queries r e.hits k)
+    ++ (option_or_else (told_query e.input) [] (own_tests settings (with_due_replied settings e.moment (state settings g)).requests (state settings g).queries (state settings (e ∷ g)).queries k)
+    ++ uses_heard settings g k)
+
+-- in a legal history the tests of an answer are those of its own use and of the hits, the last first
+abbrev pub TestsAreHeard : Type 0
+TestsAreHeard =
+    (settings : Settings) (h : List Entry) → IsLegal settings h → (k : ℕ) (a : Asked) → nth (state settings h).queries k ≡ Some a →
+    a.tests ≡ uses_heard settings h k

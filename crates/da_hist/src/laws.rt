@@ -7,7 +7,7 @@ ghost use Rattle.da_hist.specs.SuccessLaws.{OkHasItsAnswer};
 ghost use Rattle.da_hist.specs.HitLaws.{HitsAreUnique, HitsAreHits, KeysFit};
 ghost use Rattle.da_hist.specs.CheckLaws.{ChecksAreTests, HintsAreCompared};
 ghost use Rattle.da_hist.specs.ReadingLaws.{DecidedIsFirst, RepliedIsFirst, QueriesAreRead, ConnectionsAreRead};
-ghost use Rattle.da_hist.specs.HeardLaws.{TextsAreHeard, AnswersAreHeard, RecordingsAreHeard};
+ghost use Rattle.da_hist.specs.HeardLaws.{TextsAreHeard, AnswersAreHeard, RecordingsAreHeard, TestsAreHeard};
 ghost use Rattle.da_hist.specs.QueryLaws.{OpenQueriesAreAsked, AnswersAreDistinct};
 ghost use Rattle.da_hist.specs.PlayLaws.{PlaysAreLegal, LegalIsPlayed};
 ghost use Rattle.da_hist.specs.StandingLaws.{WhatIsSettledStands, UsedStaysUsed, DecisionsStand};
@@ -160,4 +160,9 @@ pub fn recordings_are_heard()
 /// In a legal history the answers of a request are those of its own queries and of its hits, in order.
 pub fn answers_are_heard()
     ensures { AnswersAreHeard }
+{}
+
+/// In a legal history the tests of an answer are those of its own use and of its hits, the last first.
+pub fn tests_are_heard()
+    ensures { TestsAreHeard }
 {}
