@@ -29,3 +29,13 @@ pub mod GrantLaws
 pub mod SuccessLaws
 pub mod HitLaws
 pub mod PlayLaws
+pub mod RunWords
+pub mod RunsOfLogins
+pub mod RunsOfConnections
+pub mod RunsOfDatabases
+pub mod RunsOfMasterLogins
+pub mod RunsOfTheCache
+pub mod RunsOfDelays
+pub mod RunsOfLateAnswers
+pub mod RunsOfHandovers
+pub mod RunsOfScram

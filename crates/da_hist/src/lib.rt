@@ -15,6 +15,7 @@ mod runs;
 mod settings;
 pub mod state;
 mod usual;
+pub mod worked_runs;
 
 pub use input::{Entry, Input};
 pub use lists::{Mechs, Numbers, Passdbs, Sent, Texts, Userdbs};
