@@ -32,7 +32,8 @@ use Rattle.da_hist.specs.declared.state.State.{State}
 use Rattle.da_msgs.specs.Replies.{mechanism_named}
 use Rattle.da_msgs.specs.declared.kinds.Mech.{Mech}
 use Rattle.da_msgs.specs.declared.kinds.Mech.TheVariants.{Plain, Login as LoginMech, CramMd5, ScramSha256}
-use Rattle.da_passdb.specs.LoginChain.{Progress, no_progress, Walk, Asking, Ended, Jumped, Move, GoOn, Stop, going_on, by_rule, deny_move, answer_move, move, is_passed_over, is_unaskable, continued, walk, chain_of, users_part, after_masters, chain_for, login_chain}
+use Rattle.da_passdb.specs.LoginChain.{no_progress, Walk, Asking, Ended, Jumped, Move, GoOn, Stop, going_on, by_rule, deny_move, answer_move, move, is_passed_over, is_unaskable, continued, walk, chain_of, users_part, after_masters, chain_for, login_chain}
+use Rattle.da_passdb.specs.declared.progress.Progress.{Progress}
 use Rattle.da_passdb.specs.Outcomes.{is_plaintext_proof, outcome}
 use Rattle.da_passdb.specs.declared.chain.Chain.{Chain}
 use Rattle.da_passdb.specs.declared.chain.Chain.TheVariants.{Ask, Done}
@@ -41,7 +42,8 @@ use Rattle.da_passdb.specs.declared.chain.VerdictKind.{VerdictKind}
 use Rattle.da_passdb.specs.declared.chain.VerdictKind.TheVariants.{Ok as IsOkay, Fail as IsFail, Temp as IsTemp, Disabled as IsDisabled}
 use Rattle.da_passdb.specs.declared.database.Passdb.{Passdb}
 use Rattle.da_schemes.specs.Stored.{StoredPassword}
-use Rattle.da_userdb.specs.UserChain.{UserProgress, UserMove, UserGoOn, UserStop, user_end, by_user_rule, with_user_outcome, after_user_outcome, user_answer_move, prefetch_move, user_move, is_user_skipped, is_prefetch, user_continued, user_walk, user_chain, user_outcome}
+use Rattle.da_userdb.specs.UserChain.{UserMove, UserGoOn, UserStop, user_end, by_user_rule, with_user_outcome, after_user_outcome, user_answer_move, prefetch_move, user_move, is_user_skipped, is_prefetch, user_continued, user_walk, user_chain, user_outcome}
+use Rattle.da_userdb.specs.declared.progress.UserProgress.{UserProgress}
 use Rattle.da_userdb.specs.declared.database.Lookup.{Lookup}
 use Rattle.da_userdb.specs.declared.database.UserChain.{UserChain}
 use Rattle.da_userdb.specs.declared.database.UserChain.TheVariants.{Ask as AskUser, Found as UserFound, NotFound as UserNotFound, Temp as UserFailed}

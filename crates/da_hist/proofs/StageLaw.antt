@@ -3,7 +3,8 @@ use Rattle.std.proofs.Common.{◌≡◌, refl, sym, ◌∙◌, ap, Option, Some,
 use Rattle.std.proofs.lemmas.Option.{none-some, same_Some}
 use Rattle.da_base.specs.Words.{Bytes}
 use Rattle.da_fields.specs.Answers.{Answers, answer_from}
-use Rattle.da_passdb.specs.LoginChain.{Progress, no_progress, Walk, Asking, Ended, Jumped, Move, GoOn, Stop, move, continued, walk, chain_of, user_databases, master_databases, after_masters, chain_for, login_chain}
+use Rattle.da_passdb.specs.LoginChain.{no_progress, Walk, Asking, Ended, Jumped, Move, GoOn, Stop, move, continued, walk, chain_of, user_databases, master_databases, after_masters, chain_for, login_chain}
+use Rattle.da_passdb.specs.declared.progress.Progress.{Progress}
 use Rattle.da_passdb.specs.Outcomes.{is_plaintext_proof}
 use Rattle.da_passdb.specs.declared.chain.Chain.{Chain}
 use Rattle.da_passdb.specs.declared.database.Passdb.{Passdb}

@@ -1,2 +1,4 @@
 pub mod Outcomes
 pub mod LoginChain
+pub mod Places
+pub mod Cursors

@@ -2,7 +2,7 @@
 use Rattle.std.specs.Prelude.{ℕ, suc, Bool, true, false, ◌&&◌, ◌||◌, not, List, [], ◌∷◌, filter, Option, Some, None, if◌then◌else◌, ◌==◌}
 use Rattle.std.specs.List.{list_all}
 use Rattle.da_base.specs.Words.{Bytes}
-use Rattle.da_fields.specs.FieldList.{Pairs, merge}
+use Rattle.da_fields.specs.FieldList.{merge}
 use Rattle.da_fields.specs.Answers.{Answers, answer_from, answer_fields, is_success, rule_for}
 use Rattle.da_names.specs.Filters.{filter_matches}
 use Rattle.da_names.specs.Templates.{expand_fields, is_template_field}
@@ -25,6 +25,7 @@ use Rattle.da_passdb.specs.declared.database.Passdb.{Passdb}
 use Rattle.da_passdb.specs.declared.database.Skip.{Skip}
 use Rattle.da_passdb.specs.declared.database.Skip.TheVariants.{Never, Authenticated, Unauthenticated}
 use Rattle.da_passdb.specs.declared.login.Login.{Login}
+use Rattle.da_passdb.specs.declared.progress.Progress.{Progress}
 use Rattle.da_passdb.specs.Outcomes.{query_kind, is_plaintext_proof, outcome}
 
 -- ---- lists of databases
@@ -43,16 +44,7 @@ are_valid_passdbs dbs = are_valid_from 1 dbs
 
 -- ---- a walk along the databases
 
--- the state of a chain
-pub record Progress : Type 0 where
-  pub success : Bool
-  -- a password has been checked
-  pub checked : Bool
-  -- a database gave no answer
-  pub internal : Bool
-  pub fields : Pairs
-  pub credentials : Option StoredPassword
-
+-- the state before the first database
 abbrev pub no_progress : Progress
 no_progress = record { success = false; checked = false; internal = false; fields = []; credentials = None }
 

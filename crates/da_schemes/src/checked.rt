@@ -1,7 +1,8 @@
 // A stored password held against a plaintext, once.
-ghost use Rattle.std.specs.Prelude.{◌≡◌};
+ghost use Rattle.std.specs.Prelude.{◌≡◌, ◌↔◌, IsTrue};
 ghost use Rattle.da_schemes.specs.Stored.{matches};
 
+use crate::digest::same_bytes;
 use crate::octets::Octets;
 use crate::stored::Stored;
 use std::marker::Model;
@@ -45,5 +46,12 @@ impl Checked {
         ensures { result ≡ matches self.now.stored self.now.plain }
     {
         self.answer
+    }
+
+    /// Whether this is what was held: the same stored password, and the same plaintext.
+    pub fn is_of(&self, stored: &Stored, plain: &[u8]) -> bool
+        ensures { IsTrue result ↔ (self.now.stored ≡ stored.now) × (self.now.plain ≡ plain.now) }
+    {
+        self.stored.is_same(stored) && same_bytes(self.plain.bytes(), plain)
     }
 }

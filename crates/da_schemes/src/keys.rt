@@ -1,7 +1,8 @@
 // The keys of SCRAM-SHA-256.
-ghost use Rattle.std.specs.Prelude.{◌≡◌, ◌<◌, IfOk};
+ghost use Rattle.std.specs.Prelude.{◌≡◌, ◌<◌, ◌↔◌, IfOk, IsTrue};
 ghost use Rattle.da_schemes.specs.Keys as words;
 
+use crate::digest::same_bytes;
 use crate::hmac::{hi, hmac_sha256};
 use crate::octets::Octets;
 use sha2::{Digest, Sha256};
@@ -63,5 +64,15 @@ impl ScramKeys {
             stored: self.stored,
             server: self.server,
         })
+    }
+
+    /// Whether two sets of keys are equal.
+    pub(crate) fn is_same(&self, other: &ScramKeys) -> bool
+        ensures { IsTrue result ↔ (self.now ≡ other.now) }
+    {
+        self.rounds == other.rounds
+            && same_bytes(self.salt.bytes(), other.salt.bytes())
+            && same_bytes(&self.stored, &other.stored)
+            && same_bytes(&self.server, &other.server)
     }
 }

@@ -107,6 +107,13 @@ impl Stored {
         }
     }
 
+    /// Whether two stored passwords are equal.
+    pub fn is_same(&self, other: &Stored) -> bool
+        ensures { IsTrue result ↔ (self.now ≡ other.now) }
+    {
+        self.scheme == other.scheme && self.secret.is_same(&other.secret)
+    }
+
     /// An equal stored password.
     pub fn copy(&self, alloc: Global) -> Result<Stored, AllocError>
         ensures { IfOk result (λ stored. stored ≡ self.now) }

@@ -1,0 +1,2 @@
+pub mod UserWalks
+pub mod UserStandings

@@ -1,1 +1,3 @@
 pub mod UserChain
+pub mod UserPlaces
+pub mod UserCursors

@@ -21,6 +21,7 @@ use Rattle.da_userdb.specs.declared.database.UserDriver.{UserDriver}
 use Rattle.da_userdb.specs.declared.database.UserDriver.TheVariants.{Prefetch}
 use Rattle.da_userdb.specs.declared.database.UserSkip.{UserSkip}
 use Rattle.da_userdb.specs.declared.database.UserSkip.TheVariants.{Never, Found as WhereFound, NotFound as WhereNotFound}
+use Rattle.da_userdb.specs.declared.progress.UserProgress.{UserProgress}
 
 -- ---- lists of databases
 
@@ -38,13 +39,7 @@ are_valid_userdbs dbs = are_valid_from 1 dbs
 
 -- ---- a walk along the databases
 
--- the state of a chain
-pub record UserProgress : Type 0 where
-  pub found : Bool
-  -- a database that was asked gave no answer
-  pub internal : Bool
-  pub fields : Pairs
-
+-- the state before the first database
 abbrev pub no_user_progress : UserProgress
 no_user_progress = record { found = false; internal = false; fields = [] }
 

@@ -80,3 +80,16 @@ pub struct Lookup {
     pub passdb_fields: Fields,
     pub vars: Vars,
 }
+
+impl Lookup {
+    /// An equal lookup.
+    pub fn copy(&self, alloc: Global) -> Result<Lookup, AllocError>
+        ensures { IfOk result (λ lookup. lookup ≡ self.now) }
+    {
+        Ok(Lookup {
+            user: self.user.copy(alloc)?,
+            passdb_fields: self.passdb_fields.copy(alloc)?,
+            vars: self.vars.copy(alloc)?,
+        })
+    }
+}

@@ -1,0 +1,42 @@
+// Fields whose values are templates.
+
+ghost use Rattle.std.specs.Prelude.{◌≡◌, IfOk, IsTrue};
+ghost use Rattle.std.specs.List.{list_all};
+ghost use Rattle.da_fields.specs.FieldList as words;
+ghost use Rattle.da_names.specs.Templates as templates;
+
+use da_fields::{Fields, Text, merge};
+use da_names::{Vars, expand};
+use std::alloc::{AllocError, Global};
+
+/// The fields with each value, a template, replaced by what it stands for.
+pub fn expand_fields(alloc: Global, fields: &Fields, vars: &Vars) -> Result<Fields, AllocError>
+    requires { IsTrue (list_all templates.is_template_field fields.now) }
+    ensures { IfOk result (λ expanded. expanded ≡ templates.expand_fields vars.now fields.now) }
+{
+    let mut expanded = Fields::new(alloc);
+    for (key, template) in fields.pairs() {
+        let value = expand(alloc, template.bytes(), vars)?;
+        expanded.set(key.copy(alloc)?, Text::new(value))?;
+    }
+    Ok(expanded)
+}
+
+/// The fields `before`, with those of a success: each of `default` whose key isn't there yet, then each of `found`, then
+/// each of `over`. The values of `default` and `over` are templates.
+pub fn merge_expanded(
+    alloc: Global,
+    before: &Fields,
+    default: &Fields,
+    found: &Fields,
+    over: &Fields,
+    vars: &Vars,
+) -> Result<Fields, AllocError>
+    requires default { IsTrue (list_all templates.is_template_field default.now) }
+    requires over { IsTrue (list_all templates.is_template_field over.now) }
+    ensures { IfOk result (λ fields. fields ≡ words.merge before.now (templates.expand_fields vars.now default.now) found.now (templates.expand_fields vars.now over.now)) }
+{
+    let default = expand_fields(alloc, default, vars)?;
+    let over = expand_fields(alloc, over, vars)?;
+    merge(alloc, before, &default, found, &over)
+}

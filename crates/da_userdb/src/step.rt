@@ -1,0 +1,199 @@
+// What one database does to a chain.
+
+ghost use Rattle.std.specs.Prelude.{◌≡◌, ℕ, IfOk, IsTrue, Option, Some, option_copied};
+ghost use Rattle.da_fields.specs.declared.answer.Answer.{Answer};
+ghost use Rattle.da_userdb.specs.declared.progress.UserProgress.{UserProgress};
+ghost use Rattle.da_userdb.specs.UserChain as words;
+ghost use Rattle.da_userdb.specs.UserPlaces.{lookup_of, followed, stepped, AsksUnchanged};
+
+use crate::database::{Lookup, UserDriver, UserSkip, Userdb};
+use crate::progress::{Course, UserProgress};
+use da_chain::{answer_fields, merge_expanded, rule_for};
+use da_fields::{Answer, Fields, Outcome, Text, userdb_part};
+use da_names::Vars;
+use std::alloc::{AllocError, Global};
+
+/// For whom a lookup is made.
+#[derive(Drop)]
+pub(crate) struct Subject<'a> {
+    pub(crate) user: &'a Text,
+    pub(crate) passdb_fields: &'a Fields,
+    pub(crate) vars: &'a Vars,
+}
+
+impl Lookup {
+    /// The lookup behind references.
+    pub(crate) fn subject(&self) -> Subject<'_>
+        ensures { lookup_of result ≡ self.now }
+    {
+        Subject {
+            user: &self.user,
+            passdb_fields: &self.passdb_fields,
+            vars: &self.vars,
+        }
+    }
+}
+
+/// What a database does to a chain.
+#[derive(Clone, Copy, Drop)]
+pub(crate) enum Step {
+    /// The chain goes on to the next database.
+    GoesOn,
+    /// The database is asked.
+    Asks,
+    /// The chain ends with the state so far.
+    Ends,
+}
+
+fn is_skipped(skip: UserSkip, found: bool) -> bool
+    ensures { result ≡ words.is_user_skipped skip found }
+{
+    match skip {
+        UserSkip::Never => false,
+        UserSkip::Found => found,
+        UserSkip::NotFound => !found,
+    }
+}
+
+// The outcome of an answer.
+fn outcome_of(answer: &Answer) -> Outcome
+    ensures { result ≡ words.user_outcome answer.now }
+{
+    match answer {
+        Answer::Found { stored, .. } => {
+            if stored.bytes().is_empty() {
+                Outcome::Success
+            } else {
+                Outcome::Internal
+            }
+        }
+        Answer::Unknown => Outcome::Unknown,
+        Answer::Passed { .. } | Answer::Mismatch | Answer::Internal(_) => Outcome::Internal,
+    }
+}
+
+// What an outcome leaves, before the rule: a success sets the fields.
+fn take_outcome(
+    alloc: Global,
+    db: &Userdb,
+    vars: &Vars,
+    outcome: Outcome,
+    found: &Fields,
+    progress: &mut UserProgress,
+) -> Result<(), AllocError>
+    requires { IsTrue (words.is_valid_userdb db.now) }
+    ensures { IfOk result (λ _. progress.new ≡ words.with_user_outcome db.now vars.now outcome found.now progress.old) }
+{
+    match outcome {
+        Outcome::Success => {
+            progress.fields = merge_expanded(
+                alloc,
+                &progress.fields,
+                &db.default_fields,
+                found,
+                &db.override_fields,
+                vars,
+            )?;
+        }
+        Outcome::Internal => progress.internal = true,
+        Outcome::Mismatch | Outcome::Unknown | Outcome::NoScheme => {}
+    }
+    Ok(())
+}
+
+// What a chain does after an outcome.
+fn follow(
+    alloc: Global,
+    db: &Userdb,
+    vars: &Vars,
+    outcome: Outcome,
+    found: &Fields,
+    progress: &mut UserProgress,
+) -> Result<Course, AllocError>
+    requires { IsTrue (words.is_valid_userdb db.now) }
+    ensures { IfOk result (λ course. followed course progress.new ≡ words.after_user_outcome db.now vars.now outcome found.now progress.old) }
+{
+    take_outcome(alloc, db, vars, outcome, found, progress)?;
+    let rule = rule_for(
+        db.result_success,
+        db.result_failure,
+        db.result_internalfail,
+        outcome,
+    );
+    Ok(progress.obey(rule))
+}
+
+/// What a chain does after the answer of a database that was asked.
+pub(crate) fn settle(
+    alloc: Global,
+    db: &Userdb,
+    subject: &Subject,
+    answer: &Answer,
+    progress: &mut UserProgress,
+) -> Result<Course, AllocError>
+    requires { IsTrue (words.is_valid_userdb db.now) }
+    ensures { IfOk result (λ course. followed course progress.new ≡ words.user_answer_move db.now (lookup_of subject.now) progress.old (Some answer.now)) }
+{
+    let none = Fields::new(alloc);
+    let outcome = outcome_of(answer);
+    let found = answer_fields(answer, &none);
+    follow(alloc, db, subject.vars, outcome, found, progress)
+}
+
+// A prefetch database: a success exactly where the password databases gave a field for user databases.
+fn prefetch(
+    alloc: Global,
+    db: &Userdb,
+    subject: &Subject,
+    progress: &mut UserProgress,
+) -> Result<Course, AllocError>
+    requires { IsTrue (words.is_valid_userdb db.now) }
+    ensures { IfOk result (λ course. followed course progress.new ≡ words.prefetch_move db.now (lookup_of subject.now) progress.old) }
+{
+    let part = userdb_part(alloc, subject.passdb_fields)?;
+    let outcome = if part.pairs().is_empty() {
+        Outcome::Unknown
+    } else {
+        Outcome::Success
+    };
+    follow(alloc, db, subject.vars, outcome, &part, progress)
+}
+
+impl Step {
+    fn of(course: Course) -> Step
+        ensures moves { (db : ℕ) (p : UserProgress) → stepped result db p ≡ followed course p }
+        ensures asks { (answer : Option Answer) (before after : UserProgress) → AsksUnchanged result answer before after }
+    {
+        match course {
+            Course::GoesOn => Step::GoesOn,
+            Course::Ends => Step::Ends,
+        }
+    }
+}
+
+/// What a database does to a chain, with its answer if there is one.
+#[tactic(auto, unfolding(crate::specs::UserChain::user_move))]
+pub(crate) fn visit(
+    alloc: Global,
+    db: &Userdb,
+    subject: &Subject,
+    answer: Option<&Answer>,
+    progress: &mut UserProgress,
+) -> Result<Step, AllocError>
+    requires { IsTrue (words.is_valid_userdb db.now) }
+    ensures moves { IfOk result (λ step. stepped step db.now.number progress.new ≡ words.user_move db.now (lookup_of subject.now) progress.old (option_copied answer.entry)) }
+    ensures asks { IfOk result (λ step. AsksUnchanged step (option_copied answer.entry) progress.old progress.new) }
+{
+    if is_skipped(db.skip, progress.found) {
+        return Ok(Step::GoesOn);
+    }
+    if db.driver == UserDriver::Prefetch {
+        let course = prefetch(alloc, db, subject, progress)?;
+        return Ok(Step::of(course));
+    }
+    let Some(answer) = answer else {
+        return Ok(Step::Asks);
+    };
+    let course = settle(alloc, db, subject, answer, progress)?;
+    Ok(Step::of(course))
+}
