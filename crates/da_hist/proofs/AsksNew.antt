@@ -18,7 +18,8 @@ use Rattle.da_names.specs.declared.variables.Vars.{Vars}
 use Rattle.da_schemes.specs.Stored.{StoredPassword}
 use Rattle.da_msgs.specs.declared.kinds.Mech.{Mech}
 use Rattle.da_msgs.specs.declared.kinds.Mech.TheVariants.{Plain, Login as LoginMech, CramMd5, ScramSha256}
-use Rattle.da_passdb.specs.LoginChain.{Progress, Walk, Move, Asking, Ended, Jumped, GoOn, Stop, ended, asking, move, by_rule, going_on, after_outcome, with_outcome, deny_move, answer_move, is_passed_over, is_unaskable, walk, continued, chain_of, chain_for, after_masters, login_chain, users_part, master_databases, user_databases, no_progress, verdict}
+use Rattle.da_passdb.specs.LoginChain.{Walk, Move, Asking, Ended, Jumped, GoOn, Stop, ended, asking, move, by_rule, going_on, after_outcome, with_outcome, deny_move, answer_move, is_passed_over, is_unaskable, walk, continued, chain_of, chain_for, after_masters, login_chain, users_part, master_databases, user_databases, no_progress, verdict}
+use Rattle.da_passdb.specs.declared.progress.Progress.{Progress}
 use Rattle.da_passdb.specs.Outcomes.{outcome, is_plaintext_proof, query_kind}
 use Rattle.da_passdb.specs.declared.chain.Chain.{Chain}
 use Rattle.da_passdb.specs.declared.chain.Chain.TheVariants.{Ask, Done}
@@ -27,7 +28,8 @@ use Rattle.da_passdb.specs.declared.chain.VerdictKind.{VerdictKind}
 use Rattle.da_passdb.specs.declared.chain.VerdictKind.TheVariants.{Ok as IsOkay, Fail as IsFail, Temp as IsTemp, Disabled as IsDisabled}
 use Rattle.da_passdb.specs.declared.database.Passdb.{Passdb}
 use Rattle.da_passdb.specs.declared.login.Login.{Login}
-use Rattle.da_userdb.specs.UserChain.{UserProgress, UserMove, UserGoOn, UserStop, user_end, user_move, prefetch_move, user_answer_move, after_user_outcome, by_user_rule, with_user_outcome, user_outcome, is_user_skipped, is_prefetch, user_walk, user_continued, user_chain, no_user_progress}
+use Rattle.da_userdb.specs.UserChain.{UserMove, UserGoOn, UserStop, user_end, user_move, prefetch_move, user_answer_move, after_user_outcome, by_user_rule, with_user_outcome, user_outcome, is_user_skipped, is_prefetch, user_walk, user_continued, user_chain, no_user_progress}
+use Rattle.da_userdb.specs.declared.progress.UserProgress.{UserProgress}
 use Rattle.da_userdb.specs.declared.database.Lookup.{Lookup}
 use Rattle.da_userdb.specs.declared.database.UserChain.{UserChain}
 use Rattle.da_userdb.specs.declared.database.UserChain.TheVariants.{Ask as AskUser, Found as UserFound, NotFound as UserNotFound, Temp as UserFailed}
