@@ -203,7 +203,7 @@ told_is_recorded settings moment query given before a is run (Line conn text ran
 told_is_recorded settings moment query given before a is run (Broken conn) t = absurd t
 told_is_recorded settings moment query given before a is run (Gone conn) t = absurd t
 told_is_recorded settings moment query given before a is run Take t = absurd t
-told_is_recorded settings moment query given before a is run (Answered n answer) t =
+told_is_recorded settings moment query given before a is run (Answered n told) t =
     subst (λ (i : Answer). IsRecorded (records settings moment n i (nth before.queries n) before).state.queries query a (recorded_answer a.question.kind given) moment) (sym t.1)
     (subst (λ (k : ℕ). IsRecorded (records settings moment k given (nth before.queries k) before).state.queries query a (recorded_answer a.question.kind given) moment) (sym t.0) (records_it settings moment query given before a is run))
 told_is_recorded settings moment query given before a is run (Late n) t =

@@ -6,7 +6,7 @@ use Rattle.da_hist.proofs.EntryInduction.{IsUndecidedAt}
 use Rattle.da_hist.proofs.EntryParts.{HeardParts, MovedParts, an_entry_gives, recorded}
 use Rattle.da_hist.proofs.KeysLaw.{IsRecorded, told_is_recorded}
 use Rattle.da_hist.proofs.OpenQueries.{nowhere}
-use Rattle.da_hist.proofs.Rows.{of_changed, of_appended, nth-changed, passing, number_found}
+use Rattle.da_hist.proofs.Rows.{of_changed, of_appended, nth-changed, passing, number_found, is_listed}
 use Rattle.da_hist.proofs.Standing.{rest_stands, what_is_settled_stands}
 use Rattle.da_base.specs.Words.{nth, changed_nth, passes_option, number_where}
 use Rattle.da_fields.specs.declared.answer.Answer.{Answer}
@@ -298,4 +298,8 @@ pub queries_are_read : QueriesAreRead
 queries_are_read settings = (
   record { by_take = taken_by settings; of_take = of_take settings },
   record { by_entry = answered_by_entry settings; of_entry = of_entry settings },
+  record {
+    waiting = λ h k. is_listed (is_waiting (state settings h)) k (state settings h).queries;
+    running = λ h k. is_listed is_running k (state settings h).queries;
+  },
 )

@@ -1,8 +1,9 @@
 -- Rows of tables, counted from 1: what a changed, mapped or longer table has at a place.
-use Rattle.std.proofs.Common.{◌≡◌, ◌≢◌, ◌⊎◌, inl, inr, refl, sym, ◌∙◌, ap, subst, Option, Some, None, List, [], ◌∷◌, ◌++◌, ℕ, zero, suc, Bool, true, false, map, length, slice_get, option_map, cond, ◌==◌, eq-eqb, true≢false}
+use Rattle.std.proofs.Common.{◌≡◌, ◌≢◌, ◌⊎◌, inl, inr, refl, sym, ◌∙◌, ap, subst, Option, Some, None, List, [], ◌∷◌, ◌++◌, ℕ, zero, suc, Bool, true, false, map, length, slice_get, option_map, ◌||◌, ◌<◌, ◌+◌, ne_eqb, arith, cond, ◌==◌, eq-eqb, true≢false}
+use Rattle.std.specs.List.{list_any}
 use Rattle.std.proofs.lemmas.Bool.{eqb-true}
 use Rattle.std.proofs.lemmas.Option.{none-some, same_Some}
-use Rattle.da_base.specs.Words.{nth, changed_at, changed_nth, passes_option, number_where, one_further}
+use Rattle.da_base.specs.Words.{nth, changed_at, changed_nth, passes_option, number_where, numbers_where, one_further}
 
 -- equal or not
 pub same_or_not : (m n : ℕ) → (m ≡ n) ⊎ (m ≢ n)
@@ -161,3 +162,39 @@ number_found {A} test (y ∷ xs) n e = go (number_found test xs) (test y) refl
     go : ((k : ℕ) → number_where test xs ≡ suc k → (x : A) × (nth xs (suc k) ≡ Some x)) → (b : Bool) → test y ≡ b → (x : A) × (nth (y ∷ xs) (suc n) ≡ Some x)
     go rest true d = subst (λ (j : ℕ). (x : A) × (nth (y ∷ xs) (suc j) ≡ Some x)) (ap less (sym (ap (λ (b : Bool). cond b 1 (one_further (number_where test xs))) d) ∙ e)) (y, refl)
     go rest false d = further rest (number_where test xs) refl (sym (ap (λ (b : Bool). cond b 1 (one_further (number_where test xs))) d) ∙ e)
+
+-- ---- the numbers of the rows that pass
+
+none_before : {A : Type 0} (test : A → Bool) (k m : ℕ) (xs : List A) → k < m → list_any (λ n. n == k) (numbers_where test m xs) ≡ false
+none_before test k m [] l = refl
+none_before test k m (x ∷ xs) l = by_pass (none_before test k (suc m) xs (omega (arith, l))) (test x)
+  where
+    by_pass : list_any (λ n. n == k) (numbers_where test (suc m) xs) ≡ false → (b : Bool) → list_any (λ n. n == k) (cond b (m ∷ numbers_where test (suc m) xs) (numbers_where test (suc m) xs)) ≡ false
+    by_pass rest true = ap (λ (b : Bool). b || list_any (λ n. n == k) (numbers_where test (suc m) xs)) (ne_eqb m k (λ d. let bad : ⊥ = omega (arith, d, l) in bad)) ∙ rest
+    by_pass rest false = rest
+
+numbered : {A : Type 0} (test : A → Bool) (n m : ℕ) (xs : List A) → list_any (λ j. j == n + m) (numbers_where test m xs) ≡ passes_option test (slice_get xs n)
+numbered test n m [] = refl
+numbered test zero m (x ∷ xs) = by_pass (test x)
+  where
+    by_pass : (b : Bool) → list_any (λ j. j == 0 + m) (cond b (m ∷ numbers_where test (suc m) xs) (numbers_where test (suc m) xs)) ≡ b
+    by_pass true = ap (λ (b : Bool). b || list_any (λ j. j == 0 + m) (numbers_where test (suc m) xs)) (eq-eqb m (0 + m) (omega arith))
+    by_pass false = none_before test (0 + m) (suc m) xs (omega arith)
+numbered test (suc n) m (x ∷ xs) = by_pass (numbered test n (suc m) xs) (test x)
+  where
+    shift : suc n + m ≡ n + suc m
+    shift = omega arith
+
+    by_pass : list_any (λ j. j == n + suc m) (numbers_where test (suc m) xs) ≡ passes_option test (slice_get xs n) → (b : Bool) →
+        list_any (λ j. j == suc n + m) (cond b (m ∷ numbers_where test (suc m) xs) (numbers_where test (suc m) xs)) ≡ passes_option test (slice_get xs n)
+    by_pass rest true = ap (λ (b : Bool). b || list_any (λ j. j == suc n + m) (numbers_where test (suc m) xs)) (ne_eqb m (suc n + m) (λ d. let bad : ⊥ = omega (arith, d) in bad))
+        ∙ ap (λ (k : ℕ). list_any (λ j. j == k) (numbers_where test (suc m) xs)) shift ∙ rest
+    by_pass rest false = ap (λ (k : ℕ). list_any (λ j. j == k) (numbers_where test (suc m) xs)) shift ∙ rest
+
+-- a number is listed exactly where its row passes
+pub is_listed : {A : Type 0} (test : A → Bool) (n : ℕ) (xs : List A) → list_any (λ j. j == n) (numbers_where test 1 xs) ≡ passes_option test (nth xs n)
+is_listed test zero xs = none_before test 0 1 xs (omega arith)
+is_listed test (suc n) xs = ap (λ (k : ℕ). list_any (λ j. j == k) (numbers_where test 1 xs)) one_more ∙ numbered test n 1 xs
+  where
+    one_more : suc n ≡ n + 1
+    one_more = omega arith

@@ -37,6 +37,10 @@ waiting st = numbers_where (is_waiting st) 1 st.queries
 abbrev pub first_waiting : State → ℕ
 first_waiting st = number_where (is_waiting st) st.queries
 
+-- the queries that run, in order of number, which is the order of their Takes
+abbrev pub running : State → List ℕ
+running st = numbers_where is_running 1 st.queries
+
 abbrev pub is_running_in : State → ℕ → Bool
 is_running_in st query = passes_option is_running (nth st.queries query)
 

@@ -1,5 +1,6 @@
 -- Laws that read the tables as sentences on the history.
 use Rattle.std.specs.Prelude.{◌≡◌, ℕ, Bool, true, false, List, [], ◌∷◌, ◌++◌, Option, Some, None, is_some, ◌==◌}
+use Rattle.std.specs.List.{list_any}
 use Rattle.da_base.specs.Words.{nth, passes_option}
 use Rattle.da_fields.specs.declared.answer.Answer.{Answer}
 use Rattle.da_fields.specs.declared.answer.Answer.TheVariants.{Internal}
@@ -12,7 +13,7 @@ use Rattle.da_hist.specs.declared.state.Asked.{Asked}
 use Rattle.da_hist.specs.declared.state.Request.{Request}
 use Rattle.da_hist.specs.Requests.{decision}
 use Rattle.da_hist.specs.Tables.{is_open_in}
-use Rattle.da_hist.specs.Queries.{is_running_in, recorded_answer}
+use Rattle.da_hist.specs.Queries.{is_waiting, is_running_in, waiting, running, recorded_answer}
 use Rattle.da_hist.specs.History.{state}
 use Rattle.da_hist.specs.Effects.{effects}
 
@@ -92,9 +93,14 @@ pub record AnsweredIsTold (settings : Settings) : Type 0 where
   pub by_entry : (h : List Entry) (n : ℕ) (a : Asked) (answer : Answer) (m : ℕ) → nth (state settings h).queries n ≡ Some a → a.answer ≡ Some (answer, m) → WasAnswered settings h n a answer m
   pub of_entry : (h : List Entry) (n : ℕ) (a : Asked) (answer : Answer) (m : ℕ) → nth (state settings h).queries n ≡ Some a → WasAnswered settings h n a answer m → a.answer ≡ Some (answer, m)
 
+-- the waiting and the running queries are those that wait and run
+pub record ListsAreWhole (settings : Settings) : Type 0 where
+  pub waiting : (h : List Entry) (k : ℕ) → list_any (λ n. n == k) (waiting (state settings h)) ≡ passes_option (is_waiting (state settings h)) (nth (state settings h).queries k)
+  pub running : (h : List Entry) (k : ℕ) → list_any (λ n. n == k) (running (state settings h)) ≡ is_running_in (state settings h) k
+
 -- a query waits from its question until its Take, and runs from its Take until its answer
 abbrev pub QueriesAreRead : Type 0
-QueriesAreRead = (settings : Settings) → TakenIsHandedOut settings × AnsweredIsTold settings
+QueriesAreRead = (settings : Settings) → TakenIsHandedOut settings × AnsweredIsTold settings × ListsAreWhole settings
 
 -- ---- connections
 
