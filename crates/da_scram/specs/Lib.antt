@@ -1,3 +1,5 @@
 pub mod Messages
 pub mod Scram
 pub mod Reading
+pub mod Cuts
+pub mod Example

@@ -1,5 +1,5 @@
 -- The messages of SCRAM (RFC 5802, sections 5.1 and 7), as they are written.
-use Rattle.std.specs.Prelude.{◌≡◌, ℕ, Bool, true, false, ◌&&◌, ◌||◌, not, List, [], ◌∷◌, ◌++◌, length, flat_map, if◌then◌else◌, nat_le, ◌==◌, codes}
+use Rattle.std.specs.Prelude.{◌≡◌, ℕ, Bool, true, false, ◌&&◌, ◌||◌, not, List, [], ◌∷◌, ◌++◌, length, flat_map, if◌then◌else◌, nat_le, nat_lt, ◌==◌, codes}
 use Rattle.std.specs.List.{list_all, list_any}
 use Rattle.da_base.specs.Words.{Bytes, to_base64}
 
@@ -80,13 +80,20 @@ pub record FinalMessage : Type 0 where
   pub extensions : List Bytes
   pub proof : Bytes
 
--- the message without its proof (client-final-message-without-proof): the header, and the nonces of both
+-- 32 bytes
+abbrev pub is_proof : Bytes → Bool
+is_proof proof = (length proof == 32) && list_all (λ byte. nat_lt byte 256) proof
+
+-- what the message begins with: the header of the first one in base64, and the nonces of both
+abbrev pub final_front : Bytes → Bytes → Bytes → Bytes
+final_front gs2_header nonce server_nonce = codes "c=" ++ to_base64 gs2_header ++ codes ",r=" ++ nonce ++ server_nonce
+
+-- the message without its proof (client-final-message-without-proof)
 abbrev pub final_without_proof : FirstMessage → Bytes → FinalMessage → Bytes
-final_without_proof first server_nonce m =
-    codes "c=" ++ to_base64 (header first) ++ codes ",r=" ++ first.nonce ++ server_nonce ++ listed m.extensions
+final_without_proof first server_nonce m = final_front (header first) first.nonce server_nonce ++ listed m.extensions
 
 abbrev pub is_final_message : FinalMessage → Bool
-is_final_message m = list_all is_extension m.extensions && (length m.proof == 32)
+is_final_message m = list_all is_extension m.extensions && is_proof m.proof
 
 -- the text is this message, after this first message and under this nonce of the server
 pub record IsFinal (first : FirstMessage) (server_nonce text : Bytes) (m : FinalMessage) : Type 0 where

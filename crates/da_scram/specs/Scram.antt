@@ -1,5 +1,5 @@
 -- The mechanism SCRAM-SHA-256 (RFC 5802, section 3; RFC 7677).
-use Rattle.std.specs.Prelude.{◌≡◌, Bool, true, false, List, [], ◌∷◌, ◌++◌, take, Option, Some, None, if◌then◌else◌, bytes_eq, codes, decimal}
+use Rattle.std.specs.Prelude.{◌≡◌, ℕ, Bool, true, false, List, [], ◌∷◌, ◌++◌, take, Option, Some, None, if◌then◌else◌, bytes_eq, codes, decimal}
 use Rattle.sha2.specs.Sha256.{sha256}
 use Rattle.da_base.specs.Words.{Bytes, to_base64}
 use Rattle.da_schemes.specs.Hmac.{hmac_sha256, xor_bytes}
@@ -14,13 +14,17 @@ abbrev pub request_salt : Bytes → Bytes
 request_salt random = take 16 (sha256 random)
 
 -- the server's first message: both nonces, the salt and the rounds
-abbrev pub server_first : FirstMessage → Bytes → ScramKeys → Bytes
-server_first first server_nonce keys = codes "r=" ++ first.nonce ++ server_nonce ++ codes ",s=" ++ to_base64 keys.salt ++ codes ",i=" ++ decimal keys.rounds
+abbrev pub server_first : Bytes → Bytes → Bytes → ℕ → Bytes
+server_first nonce server_nonce salt rounds = codes "r=" ++ nonce ++ server_nonce ++ codes ",s=" ++ to_base64 salt ++ codes ",i=" ++ decimal rounds
 
--- what both sides sign (AuthMessage)
+-- what both sides sign (AuthMessage): the client's first message without its header, the server's first one, and the
+-- client's last one without its proof
+abbrev pub signed_text : Bytes → Bytes → Bytes → Bytes
+signed_text bare server_message without_proof = bare ++ codes "," ++ server_message ++ codes "," ++ without_proof
+
 abbrev pub auth_message : FirstMessage → Bytes → ScramKeys → FinalMessage → Bytes
 auth_message first server_nonce keys final =
-    first_bare first ++ codes "," ++ server_first first server_nonce keys ++ codes "," ++ final_without_proof first server_nonce final
+    signed_text (first_bare first) (server_first first.nonce server_nonce keys.salt keys.rounds) (final_without_proof first server_nonce final)
 
 -- whether the proof is the client key XOR the client's signature
 abbrev pub is_right_proof : ScramKeys → Bytes → Bytes → Bool
@@ -44,7 +48,7 @@ FinalSays first server_nonce keys text _ = ⊥
 
 -- what comes after a first message, under keys
 abbrev pub FurtherSays : FirstMessage → Bytes → ScramKeys → List Bytes → Said → Type 0
-FurtherSays first server_nonce keys [] what = what ≡ Challenge (server_first first server_nonce keys)
+FurtherSays first server_nonce keys [] what = what ≡ Challenge (server_first first.nonce server_nonce keys.salt keys.rounds)
 FurtherSays first server_nonce keys (text ∷ []) what = FinalSays first server_nonce keys text what
 FurtherSays first server_nonce keys (text ∷ more ∷ rest) what = what ≡ Bad
 
