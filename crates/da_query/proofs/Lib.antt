@@ -1,0 +1,5 @@
+pub mod AnswerReading
+pub mod FieldTexts
+pub mod LeftLemmas
+pub mod PrintedAgain
+pub mod QueryReading

@@ -9,19 +9,25 @@ use Rattle.da_fields.specs.declared.answer.Answer.TheVariants.{Found, Passed, Mi
 use Rattle.da_fields.specs.declared.answer.Why.{Why}
 use Rattle.da_fields.specs.declared.answer.Why.TheVariants.{Died, Malformed, Said, Late, Exit}
 use Rattle.da_fields.specs.declared.answer.Query.{Query}
+use Rattle.da_query.specs.declared.speaker.Speaker.{Speaker}
+use Rattle.da_query.specs.declared.speaker.Speaker.TheVariants.{Worker, Script}
 
 -- ---- fields
 
-abbrev pub with_text_field : Bytes → Pairs → Option Pairs
-with_text_field text pairs =
+-- the key and the value of a text, if the key isn't empty and isn't there yet
+abbrev pub new_field : Pairs → Bytes → Option (Bytes × Bytes)
+new_field fields text =
     if is_empty (text_key text) then None
-    else if is_some (field (text_key text) pairs) then None
-    else Some ((text_key text, text_value text) ∷ pairs)
+    else if is_some (field (text_key text) fields) then None
+    else Some (text_key text, text_value text)
+
+abbrev pub with_new_field : Bytes → Pairs → Option Pairs
+with_new_field text fields = option_map (λ p. p ∷ fields) (new_field fields text)
 
 -- the fields that these texts are, their keys distinct and not empty
 abbrev pub fields_of : List Bytes → Option Pairs
 fields_of [] = Some []
-fields_of (text ∷ texts) = option_and_then (with_text_field text) (fields_of texts)
+fields_of (text ∷ texts) = option_and_then (with_new_field text) (fields_of texts)
 
 -- ---- reading
 
@@ -73,23 +79,25 @@ plain_answer word rest =
     else if bytes_eq word (codes "UNKNOWN") then alone Unknown rest
     else None
 
-abbrev pub worker_answer_by : Bytes → List Bytes → Option Answer
-worker_answer_by word rest = if bytes_eq word (codes "FAIL") then said_of rest else plain_answer word rest
+-- what the word and the fields after it say; a worker may say that it failed, a script why there was no answer
+abbrev pub answer_said : Speaker → Bytes → List Bytes → Option Answer
+answer_said Worker word rest = if bytes_eq word (codes "FAIL") then said_of rest else plain_answer word rest
+answer_said Script word rest = if bytes_eq word (codes "INTERNAL") then internal_of rest else plain_answer word rest
 
-abbrev pub script_answer_by : Bytes → List Bytes → Option Answer
-script_answer_by word rest = if bytes_eq word (codes "INTERNAL") then internal_of rest else plain_answer word rest
+abbrev pub answer_by : Speaker → List Bytes → Option Numbered
+answer_by speaker (word ∷ n ∷ rest) = numbered (number n) (answer_said speaker word rest)
+answer_by speaker _ = None
 
-abbrev pub answer_by : (Bytes → List Bytes → Option Answer) → List Bytes → Option Numbered
-answer_by read (word ∷ n ∷ rest) = numbered (number n) (read word rest)
-answer_by read _ = None
+abbrev pub numbered_answer : Speaker → Bytes → Option Numbered
+numbered_answer speaker line = answer_by speaker (line_fields line)
 
 -- the answer that a worker's line spells
-unfoldable pub worker_answer : Bytes → Option Numbered
-worker_answer line = answer_by worker_answer_by (line_fields line)
+abbrev pub worker_answer : Bytes → Option Numbered
+worker_answer line = numbered_answer Worker line
 
 -- the answer that a script's line spells
 unfoldable pub script_answer : Bytes → Option Numbered
-script_answer line = answer_by script_answer_by (line_fields line)
+script_answer line = numbered_answer Script line
 
 -- an answer to this query: of its number, and of a kind that answers it
 abbrev pub answers_query : Query → Numbered → Bool
@@ -112,10 +120,14 @@ why_words Said = codes "said" ∷ []
 why_words Late = codes "late" ∷ []
 why_words (Exit status) = codes "exit" ∷ decimal status ∷ []
 
--- the line of an answer; one that is Internal stands in scripts alone
+-- the fields of the line of an answer; one that is Internal stands in scripts alone
+abbrev pub answer_words : ℕ → Answer → List Bytes
+answer_words n (Found stored fields) = codes "FOUND" ∷ decimal n ∷ stored ∷ map field_text fields
+answer_words n (Passed fields) = codes "PASSED" ∷ decimal n ∷ map field_text fields
+answer_words n Mismatch = codes "MISMATCH" ∷ decimal n ∷ []
+answer_words n Unknown = codes "UNKNOWN" ∷ decimal n ∷ []
+answer_words n (Internal why) = codes "INTERNAL" ∷ decimal n ∷ why_words why
+
+-- the line of an answer
 unfoldable pub answer_line : ℕ → Answer → Bytes
-answer_line n (Found stored fields) = spelled (codes "FOUND" ∷ decimal n ∷ stored ∷ map field_text fields)
-answer_line n (Passed fields) = spelled (codes "PASSED" ∷ decimal n ∷ map field_text fields)
-answer_line n Mismatch = spelled (codes "MISMATCH" ∷ decimal n ∷ [])
-answer_line n Unknown = spelled (codes "UNKNOWN" ∷ decimal n ∷ [])
-answer_line n (Internal why) = spelled (codes "INTERNAL" ∷ decimal n ∷ why_words why)
+answer_line n answer = spelled (answer_words n answer)

@@ -1,2 +1,5 @@
+pub mod FieldsLeft
 pub mod Queries
+pub mod QuerySpelling
 pub mod AnswerLines
+pub mod AnswerSpelling
