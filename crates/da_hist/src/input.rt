@@ -1,8 +1,11 @@
 // Inputs and entries.
 
+ghost use Rattle.std.specs.Prelude.{◌≡◌, IfOk};
+
 use crate::lists::Numbers;
 use da_fields::{Answer, Text};
 use da_msgs::ConnKind;
+use std::alloc::{AllocError, Global};
 
 /// What may happen to the server.
 #[derive(Drop)]
@@ -39,6 +42,34 @@ pub enum Input {
     },
     /// Time passes.
     Tick,
+}
+
+impl Input {
+    /// An equal input.
+    pub fn copy(&self, alloc: Global) -> Result<Input, AllocError>
+        ensures { IfOk result (λ input. input ≡ self.now) }
+    {
+        Ok(match self {
+            Input::Opened { kind, random } => Input::Opened {
+                kind: *kind,
+                random: *random,
+            },
+            Input::Line { conn, text, random } => Input::Line {
+                conn: *conn,
+                text: text.copy(alloc)?,
+                random: *random,
+            },
+            Input::Broken { conn } => Input::Broken { conn: *conn },
+            Input::Gone { conn } => Input::Gone { conn: *conn },
+            Input::Take => Input::Take,
+            Input::Answered { query, answer } => Input::Answered {
+                query: *query,
+                answer: answer.copy(alloc)?,
+            },
+            Input::Late { query } => Input::Late { query: *query },
+            Input::Tick => Input::Tick,
+        })
+    }
 }
 
 /// One entry of the history.

@@ -1,13 +1,14 @@
 -- A printed answer is read again.
-use Rattle.std.proofs.Common.{◌≡◌, ℕ, ◌<◌, ◌^◌, true, false, [], ◌∷◌, ◌++◌, map, Some, refl, sym, ap, ◌∙◌, subst, inl, inr}
+use Rattle.std.proofs.Common.{◌≡◌, ℕ, ◌<◌, ◌^◌, true, false, List, [], ◌∷◌, ◌++◌, map, Some, eqb, refl, sym, ap, ◌∙◌, subst, inl, inr}
 use Rattle.std.specs.Prelude.{codes, decimal}
 use Rattle.std.specs.List.{AllByRecursion}
 use Rattle.std.proofs.lemmas.Bool.{cases_Bool}
-use Rattle.da_base.specs.Words.{Bytes, is_empty, option_or_else}
+use Rattle.std.proofs.lemmas.List.Elements.{All-nil, All-cons}
+use Rattle.da_base.specs.Words.{Bytes, before_byte, is_empty, option_or_else}
 use Rattle.da_tabline.specs.Escapes.{line_fields}
 use Rattle.da_tabline.specs.Parts.{Lacks}
 use Rattle.da_tabline.proofs.PartLemmas.{before_byte-Lacks, after_byte-Lacks, before_byte_at, after_byte_at}
-use Rattle.da_tabline.proofs.SpellingLemmas.{line_fields-spelled}
+use Rattle.da_tabline.proofs.SpellingLemmas.{line_fields-spelled, spelled-Lacks_end}
 use Rattle.da_fields.specs.FieldList.{Pairs, field_text, text_value, AreDistinct}
 use Rattle.da_fields.specs.Answers.{fits}
 use Rattle.da_fields.specs.declared.answer.Answer.{Answer}
@@ -19,7 +20,7 @@ use Rattle.da_query.specs.declared.speaker.Speaker.TheVariants.{Worker, Script}
 use Rattle.da_query.specs.AnswerLines.{answer_words, answer_line, answer_to, script_answer, why_words}
 use Rattle.da_query.specs.AnswerSpelling.{AreFields, FieldsSpell, SpellsAnswer, SpellsScriptAnswer, ArePlain, HasPlainKeys, IsHeld, is_internal, is_late}
 use Rattle.da_query.proofs.FieldTexts.{text_pair}
-use Rattle.da_query.proofs.AnswerReading.{answer_to-answers, script_answer-from}
+use Rattle.da_query.proofs.AnswerReading.{answer_to-answers, script_answer-from, script_answer-spells}
 use Rattle.da_query.proofs.QueryReading.{number_again}
 
 -- ---- fields
@@ -112,3 +113,42 @@ pub script_answered_again : (line : Bytes) (n : ℕ) (answer : Answer) → line 
     → is_late answer ≡ false → script_answer line ≡ Some (n, answer)
 script_answered_again line n answer is small held plain early =
     script_answer-from line n answer (subst (λ l. SpellsScriptAnswer l n answer) (sym is) (answer_line-spells_script n answer small plain held early))
+
+-- ---- what a line spells
+
+before_byte-lacks : (byte : ℕ) (text : Bytes) → Lacks byte (before_byte byte text)
+before_byte-lacks byte [] = All-nil (λ c. eqb c byte ≡ false)
+before_byte-lacks byte (c ∷ cs) =
+    elim (cases_Bool (eqb c byte)) [
+      | inl e ↦ rw e (All-nil (λ x. eqb x byte ≡ false))
+      | inr e ↦ rw e (All-cons (λ x. eqb x byte ≡ false) c (before_byte byte cs) e (before_byte-lacks byte cs))
+    ]
+
+-- the key of a text has no equals sign
+texts_are_plain : (texts : List Bytes) → AllByRecursion (λ p. is_empty p.0 ≡ false) (map text_pair texts) → ArePlain (map text_pair texts)
+texts_are_plain [] keyed = tt
+texts_are_plain (text ∷ texts) keyed = ((keyed.0, before_byte-lacks 61 text), texts_are_plain texts keyed.1)
+
+spelled_plain : (texts : List Bytes) (fields : Pairs) → AreFields texts fields → ArePlain fields
+spelled_plain texts fields are =
+    subst ArePlain are.pairs (texts_are_plain texts (subst (AllByRecursion (λ p. is_empty p.0 ≡ false)) (sym are.pairs) are.keyed))
+
+spelled_by_script : (fields : List Bytes) (n : ℕ) (answer : Answer) → FieldsSpell Script fields n answer → HasPlainKeys answer × (is_late answer ≡ false)
+spelled_by_script fields n (Found stored found) s = (spelled_plain s.1 found s.4, refl)
+spelled_by_script fields n (Passed found) s = (spelled_plain s.1 found s.4, refl)
+spelled_by_script fields n Mismatch s = (tt, refl)
+spelled_by_script fields n Unknown s = (tt, refl)
+spelled_by_script fields n (Internal Died) s = (tt, refl)
+spelled_by_script fields n (Internal Malformed) s = (tt, refl)
+spelled_by_script fields n (Internal Said) s = (tt, refl)
+spelled_by_script fields n (Internal Late) s = absurd s
+spelled_by_script fields n (Internal (Exit status)) s = (tt, refl)
+
+-- an answer that a script's line spells has plain keys, and isn't late
+pub script_answer-plain : (line : Bytes) (n : ℕ) (answer : Answer) → script_answer line ≡ Some (n, answer) → HasPlainKeys answer × (is_late answer ≡ false)
+script_answer-plain line n answer h = spelled_by_script (line_fields line) n answer (script_answer-spells line n answer h)
+
+-- the line of an answer is one line
+pub answer_line-Lacks_end : (n : ℕ) (answer : Answer) → Lacks 10 (answer_line n answer)
+unfolding answer_line
+answer_line-Lacks_end n answer = spelled-Lacks_end (answer_words n answer)

@@ -57,6 +57,8 @@ pub fn print_answer(alloc: Global, number: u32, answer: &Answer) -> Result<Vec<u
         → (query : Query) → query.number ≡ number → fits query.kind answer.now ≡ true → answer_to query line.items ≡ answer.now) }
     ensures by_script { IfOk result (λ line. HasPlainKeys answer.now → is_late answer.now ≡ false
         → script_answer line.items ≡ Some (number, answer.now)) }
+    // of every answer
+    ensures held { OnOk result (IsHeld answer.now) }
 {
     line_of_answer(alloc, number, answer)
 }

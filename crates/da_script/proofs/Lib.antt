@@ -1,0 +1,3 @@
+pub mod PrintedEvents
+pub mod RandomTexts
+pub mod ScriptReading

@@ -1,0 +1,4 @@
+pub mod Random
+pub mod Events
+pub mod Replies
+pub mod Scripts

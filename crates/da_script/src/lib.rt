@@ -1,0 +1,17 @@
+//! The script of events, which is read and printed, and the printed replies of the server. A line of a script is one
+//! event: a moment, one space, and what happens. What is printed is read again, a whole history among it (`laws`).
+#![tactic(auto)]
+
+mod events;
+mod laws;
+mod printing;
+mod random;
+mod replies;
+
+pub use events::read_event;
+pub use laws::{a_printed_history_is_read_again, replies_are_printed_in_order};
+pub use printing::print_event;
+pub use replies::{print_outputs, print_refused};
+
+#[cfg(test)]
+mod tests;
