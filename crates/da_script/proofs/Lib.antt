@@ -1,3 +1,5 @@
+pub mod EventReading
 pub mod PrintedEvents
+pub mod RandomReading
 pub mod RandomTexts
 pub mod ScriptReading

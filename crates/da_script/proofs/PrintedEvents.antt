@@ -52,11 +52,11 @@ small_number n small = omega (arith, small)
 -- ---- words
 
 -- parts with a space between them
-regrouped : (a b c : Bytes) → (((a ++ 32 ∷ []) ++ b) ++ 32 ∷ []) ++ c ≡ a ++ 32 ∷ (b ++ 32 ∷ c)
+pub regrouped : (a b c : Bytes) → (((a ++ 32 ∷ []) ++ b) ++ 32 ∷ []) ++ c ≡ a ++ 32 ∷ (b ++ 32 ∷ c)
 regrouped a b c =
     append_assoc ((a ++ 32 ∷ []) ++ b) (32 ∷ []) c ∙ append_assoc (a ++ 32 ∷ []) b (32 ∷ c) ∙ append_assoc a (32 ∷ []) (b ++ 32 ∷ c)
 
-opened_again : (kind : ConnKind) (random : Bytes) → AreRandom random → input_of (input_words (Opened kind random)) ≡ Some (Opened kind random)
+pub opened_again : (kind : ConnKind) (random : Bytes) → AreRandom random → input_of (input_words (Opened kind random)) ≡ Some (Opened kind random)
 opened_again Client random are = rw (random_again random are) refl
 opened_again Master random are = rw (random_again random are) refl
 
@@ -76,7 +76,7 @@ line_parts conn random text small are short =
       le-leb (length text) 8192 short,
     ) refl
 
-line_again : (conn : ℕ) (random text : Bytes) → conn < 2 ^ 32 → AreRandom random → length text ≤ 8192
+pub line_again : (conn : ℕ) (random text : Bytes) → conn < 2 ^ 32 → AreRandom random → length text ≤ 8192
     → input_of (input_words (Line conn text random)) ≡ Some (Line conn text random)
 line_again conn random text small are short = ap line_of (regrouped (decimal conn) (random_text random) text) ∙ line_parts conn random text small are short
 
@@ -152,15 +152,15 @@ event_line-Lacks_end moment input small held plain =
 
 -- ---- the event
 
-event_parts : (moment : ℕ) (input : Input) → moment < 2 ^ 64 → InputIsHeld input → IsPlain input
-    → event_after (before_byte 32 (decimal moment ++ 32 ∷ input_words input)) (after_byte 32 (decimal moment ++ 32 ∷ input_words input)) ≡ Some (moment, input)
-event_parts moment input small held plain =
+pub event_parts_of : (moment : ℕ) (words : Bytes) (input : Input) → moment < 2 ^ 64 → input_of words ≡ Some input
+    → event_after (before_byte 32 (decimal moment ++ 32 ∷ words)) (after_byte 32 (decimal moment ++ 32 ∷ words)) ≡ Some (moment, input)
+event_parts_of moment words input small spelled =
     let no_space = decimal_lacks 32 moment (omega arith) small in
     rw (
-      before_byte_at 32 (decimal moment) (input_words input) no_space,
-      after_byte_at 32 (decimal moment) (input_words input) no_space,
+      before_byte_at 32 (decimal moment) words no_space,
+      after_byte_at 32 (decimal moment) words no_space,
       number_of_decimal (2 ^ 64 - 1) moment (omega (arith, small)) small,
-      words_again input held plain,
+      spelled,
     ) refl
 
 pub event_again : (text : Bytes) (moment : ℕ) (input : Input) → text ≡ event_line moment input → moment < 2 ^ 64 → InputIsHeld input → IsPlain input
@@ -171,7 +171,7 @@ event_again text moment input is small held plain short =
     let no_end : list_any (λ c. eqb c 10) text ≡ false =
     list_any_none (λ c. eqb c 10) text (subst (Lacks 10) (sym is) (event_line-Lacks_end moment input small held plain)) in
     let fits : fits_a_script text ≡ true = and_from (leb (length text) 16384) (not (list_any (λ c. eqb c 10) text)) (le-leb (length text) 16384 short) (ap not no_end) in
-    rw fits (ap (λ t. event_after (before_byte 32 t) (after_byte 32 t)) one ∙ event_parts moment input small held plain)
+    rw fits (ap (λ t. event_after (before_byte 32 t) (after_byte 32 t)) one ∙ event_parts_of moment (input_words input) input small (words_again input held plain))
 
 -- of a printed line, if there was memory for it
 pub printed_again : {E : Type 0} (r : Result (Vec ℕ Global) E) (moment : ℕ) (input : Input) → moment < 2 ^ 64

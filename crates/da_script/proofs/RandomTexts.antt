@@ -14,11 +14,11 @@ use Rattle.da_script.specs.Random.{AreRandom, no_random, digits_of, random_of, r
 
 -- ---- no digit passes a test
 
-abbrev none_passes : (ℕ → Bool) → List ℕ → Bool
+abbrev pub none_passes : (ℕ → Bool) → List ℕ → Bool
 none_passes test [] = not (test 0)
 none_passes test (x ∷ xs) = not (test x) && none_passes test xs
 
-index_fails : (test : ℕ → Bool) (xs : List ℕ) (i : ℕ) → none_passes test xs ≡ true → test (slice_index xs i) ≡ false
+pub index_fails : (test : ℕ → Bool) (xs : List ℕ) (i : ℕ) → none_passes test xs ≡ true → test (slice_index xs i) ≡ false
 index_fails test [] i h = not-true (test 0) h
 index_fails test (x ∷ xs) zero h = not-true (test x) (and_parts (not (test x)) (none_passes test xs) h).0
 index_fails test (x ∷ xs) (suc i) h = index_fails test xs i (and_parts (not (test x)) (none_passes test xs) h).1
