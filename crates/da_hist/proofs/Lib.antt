@@ -14,6 +14,7 @@ pub mod HitsLaw
 pub mod LegalLaw
 pub mod GrantStands
 pub mod ReplyDue
+pub mod DelayLaw
 pub mod Rows
 pub mod EntryParts
 pub mod Standing

@@ -19,6 +19,7 @@ pub mod FirstLoginPlay
 pub mod FirstLoginRun
 pub mod Served
 pub mod ReplyLaws
+pub mod DelayLaws
 pub mod StageLaws
 pub mod StandingLaws
 pub mod QueryLaws

@@ -3,6 +3,7 @@
 //! answers on the path of a first login.
 #![tactic(auto)]
 
+pub mod delay_laws;
 mod first_login;
 mod input;
 pub mod laws;
