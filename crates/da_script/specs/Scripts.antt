@@ -26,10 +26,7 @@ events bytes = events_from (script_cut bytes).lines
 
 -- ---- the script of a history
 
--- the events that make the entries of a history, each at its entry's own moment
-abbrev pub entry_event : Entry → Event
-entry_event e = (e.moment, e.input)
-
+-- one event for each entry, at the entry's own moment
 abbrev pub script : List Entry → Bytes
 script [] = []
 script (e ∷ g) = script g ++ (event_line e.moment e.input ++ 10 ∷ [])

@@ -58,6 +58,16 @@ fn events_are_read_and_printed(rt: HostRuntime) -> Result<(), Fail> {
     Ok(())
 }
 
+#[test]
+fn an_escape_that_is_not_needed_is_not_printed(rt: HostRuntime) -> Result<(), Fail> {
+    let alloc = rt.alloc();
+    assert_eq!(rt;
+        printed(alloc, b"5 answer FOUND\t1\t\x01x\tb\x01\tc=")?.as_slice(),
+        b"5 answer FOUND\t1\tx\tb\tc".as_slice()
+    );
+    Ok(())
+}
+
 // An event of this front and so many letters more.
 fn is_event(alloc: Global, front: &[u8], more: usize) -> Result<bool, AllocError> {
     let mut line = Vec::from_slice(alloc, front)?;
