@@ -1,0 +1,6 @@
+use Rattle.std.proofs.Common.{◌≡◌, drop}
+use Rattle.da_hist.specs.SettingsRanges.{first_conflict}
+use Rattle.da_config.proofs.databases.conflict.Given as goal
+
+abbrev pub invariant-loop-db : goal.invariant-loop-db
+invariant-loop-db l = first_conflict (drop l.db-index l.dbs) ≡ first_conflict l.dbs

@@ -1,0 +1,159 @@
+// The databases of a server.
+ghost use Rattle.std.specs.Prelude.{◌≡◌, ◌≤◌, ◌∷◌, ◌++◌, [], true, length, option_map, Some, None, IfOk, IfSome, OnOk};
+ghost use Rattle.da_hist.specs.SettingsRanges.{has_conflict, first_conflict};
+ghost use Rattle.da_hist.specs.UsualSettings.{usual_passdb};
+ghost use Rattle.da_passdb.specs.LoginChain.{are_valid_passdbs};
+ghost use Rattle.da_userdb.specs.UserChain.{are_valid_userdbs};
+ghost use Rattle.toml.specs.View.{items_view};
+ghost use Rattle.da_config.specs.Reading.{IsRead, IsReadBy};
+ghost use Rattle.da_config.specs.Parts.{AreTables, are_tables, tables_in};
+ghost use Rattle.da_config.specs.Databases as words;
+
+use crate::fault::{ConfigFault, Fault, FaultKind};
+use crate::part::Part;
+use crate::passdb::passdb;
+use crate::userdb::userdb;
+use da_fields::Text;
+use da_hist::{Passdbs, Userdbs, usual_passdb};
+use da_passdb::{Driver, Passdb};
+use std::alloc::{AllocError, Global};
+use toml::Value;
+
+// How the places in the table of this number begin.
+fn front(alloc: Global, array: &[u8], number: u32) -> Result<Vec<u8>, AllocError>
+    ensures { IfOk result (λ front. front.items ≡ words.front array.now number) }
+{
+    let mut front = Vec::from_slice(alloc, array)?;
+    front.extend_from_slice(b"[")?;
+    front.extend_from_slice(number.to_string(alloc)?.as_bytes())?;
+    front.extend_from_slice(b"].")?;
+    Ok(front)
+}
+
+fn push<D: Drop>(dbs: &mut Vec<D>, db: D) -> Result<(), AllocError>
+    ensures { OnOk result (dbs.new.items ≡ dbs.old.items ++ db ∷ []) }
+{
+    dbs.push(db)?;
+    Ok(())
+}
+
+fn read_passdbs(alloc: Global, array: &[Value]) -> Result<Passdbs, ConfigFault>
+    requires few { length array.now ≤ 16 }
+    requires tables { are_tables (items_view array.now) ≡ true }
+    ensures read { IsRead (words.passdbs_from 1 (tables_in (items_view array.now))) result }
+    ensures all { IfOk result (λ dbs. length dbs ≡ length array.now) }
+    ensures fit { IfOk result (λ dbs. are_valid_passdbs dbs ≡ true) }
+{
+    let mut dbs = Vec::new(alloc);
+    for value in array {
+        let Some(table) = value.as_table() else {
+            continue;
+        };
+        let number = dbs.len() as u32 + 1;
+        let front = front(alloc, b"passdb", number)?;
+        let part = Part {
+            table,
+            front: &front,
+        };
+        let db = passdb(alloc, &part, number)?;
+        push(&mut dbs, db)?;
+    }
+    Ok(Passdbs::new(dbs))
+}
+
+fn read_userdbs(alloc: Global, array: &[Value]) -> Result<Userdbs, ConfigFault>
+    requires few { length array.now ≤ 16 }
+    requires tables { are_tables (items_view array.now) ≡ true }
+    ensures read { IsRead (words.userdbs_from 1 (tables_in (items_view array.now))) result }
+    ensures all { IfOk result (λ dbs. length dbs ≡ length array.now) }
+    ensures fit { IfOk result (λ dbs. are_valid_userdbs dbs ≡ true) }
+{
+    let mut dbs = Vec::new(alloc);
+    for value in array {
+        let Some(table) = value.as_table() else {
+            continue;
+        };
+        let number = dbs.len() as u32 + 1;
+        let front = front(alloc, b"userdb", number)?;
+        let part = Part {
+            table,
+            front: &front,
+        };
+        let db = userdb(alloc, &part, number)?;
+        push(&mut dbs, db)?;
+    }
+    Ok(Userdbs::new(dbs))
+}
+
+fn has_conflict(db: &Passdb) -> bool
+    ensures { result ≡ has_conflict db.now }
+{
+    db.deny && (db.master || db.driver == Driver::Checkpassword)
+}
+
+// The number of the first database whose values conflict.
+fn conflict(dbs: &[Passdb]) -> Option<u32>
+    ensures { result ≡ option_map (λ db. db.number) (first_conflict dbs.now) }
+{
+    for db in dbs {
+        if has_conflict(db) {
+            return Some(db.number);
+        }
+    }
+    None
+}
+
+fn told_conflict(alloc: Global, number: u32) -> Result<Fault, AllocError>
+    ensures { IfOk result (λ fault. fault ≡ words.conflict_at number) }
+{
+    let mut place = front(alloc, b"passdb", number)?;
+    place.extend_from_slice(b"deny")?;
+    Ok(Fault {
+        place: Text::new(place),
+        kind: FaultKind::Conflict,
+    })
+}
+
+/// The databases, where no two values of one conflict.
+pub fn unconflicted(alloc: Global, dbs: Passdbs) -> Result<Passdbs, ConfigFault>
+    ensures read { IsRead (words.unconflicted dbs) result }
+    ensures same { IfOk result (λ same. same ≡ dbs) }
+    ensures free { IfOk result (λ same. first_conflict same ≡ None) }
+{
+    match conflict(dbs.all()) {
+        Some(number) => Err(ConfigFault::Bad(told_conflict(alloc, number)?)),
+        None => Ok(dbs),
+    }
+}
+
+fn usual_passdbs(alloc: Global) -> Result<Passdbs, AllocError>
+    ensures { IfOk result (λ dbs. dbs ≡ usual_passdb 1 ∷ []) }
+{
+    Ok(Passdbs::new(vec![in alloc; usual_passdb(alloc, 1)]?))
+}
+
+/// The password databases of these tables; without any, workers answer.
+pub fn passdbs(alloc: Global, array: Option<&[Value]>) -> Result<Passdbs, ConfigFault>
+    requires { IfSome array (AreTables 1) }
+    ensures read { IsRead (words.passdbs_of (option_map (λ values. items_view values.now) array.entry)) result }
+    ensures few { IfOk result (λ dbs. (1 ≤ length dbs) × (length dbs ≤ 16)) }
+    ensures fit { IfOk result (λ dbs. are_valid_passdbs dbs ≡ true) }
+{
+    match array {
+        Some(array) => read_passdbs(alloc, array),
+        None => Ok(usual_passdbs(alloc)?),
+    }
+}
+
+/// The user databases of these tables.
+pub fn userdbs(alloc: Global, array: Option<&[Value]>) -> Result<Userdbs, ConfigFault>
+    requires { IfSome array (AreTables 0) }
+    ensures read { IsRead (words.userdbs_of (option_map (λ values. items_view values.now) array.entry)) result }
+    ensures few { IfOk result (λ dbs. length dbs ≤ 16) }
+    ensures fit { IfOk result (λ dbs. are_valid_userdbs dbs ≡ true) }
+{
+    match array {
+        Some(array) => read_userdbs(alloc, array),
+        None => Ok(Userdbs::new(Vec::new(alloc))),
+    }
+}

@@ -1,0 +1,64 @@
+// A user database, from a table of its own.
+ghost use Rattle.std.specs.Prelude.{◌≡◌, true, IfOk};
+ghost use Rattle.da_userdb.specs.UserChain.{is_valid_userdb};
+ghost use Rattle.da_config.specs.Reading.{IsRead};
+ghost use Rattle.da_config.specs.Parts.{part_of};
+ghost use Rattle.da_config.specs.Databases as words;
+
+use crate::choices::{user_driver_called, user_skip_called};
+use crate::fault::{ConfigFault, FaultKind};
+use crate::fields::fields;
+use crate::part::Part;
+use crate::passdb::rule;
+use da_userdb::{UserDriver, UserSkip, Userdb};
+use std::alloc::Global;
+
+const KEYS: [&str; 8] = [
+    "driver",
+    "args",
+    "skip",
+    "result_success",
+    "result_failure",
+    "result_internalfail",
+    "default_fields",
+    "override_fields",
+];
+
+fn driver(alloc: Global, part: &Part<'_>) -> Result<UserDriver, ConfigFault>
+    ensures { IsRead (words.user_driver_of (part_of part.now)) result }
+{
+    let text = part.needed(alloc, "driver")?;
+    match user_driver_called(text.bytes()) {
+        Some(driver) => Ok(driver),
+        None => Err(part.fault(alloc, "driver", FaultKind::Range)),
+    }
+}
+
+fn skip(alloc: Global, part: &Part<'_>) -> Result<UserSkip, ConfigFault>
+    ensures { IsRead (words.user_skip_of (part_of part.now)) result }
+{
+    let text = part.text(alloc, "skip", b"never")?;
+    match user_skip_called(text.bytes()) {
+        Some(skip) => Ok(skip),
+        None => Err(part.fault(alloc, "skip", FaultKind::Range)),
+    }
+}
+
+/// The user database of this number, from its table.
+pub fn userdb(alloc: Global, part: &Part<'_>, number: u32) -> Result<Userdb, ConfigFault>
+    ensures read { IsRead (words.userdb_of number (part_of part.now)) result }
+    ensures fit { IfOk result (λ db. (db.number ≡ number) × (is_valid_userdb db ≡ true)) }
+{
+    part.check_keys(alloc, &KEYS)?;
+    Ok(Userdb {
+        number,
+        driver: driver(alloc, part)?,
+        args: part.text(alloc, "args", b"")?,
+        skip: skip(alloc, part)?,
+        result_success: rule(alloc, part, "result_success", b"return-ok")?,
+        result_failure: rule(alloc, part, "result_failure", b"continue")?,
+        result_internalfail: rule(alloc, part, "result_internalfail", b"continue")?,
+        default_fields: fields(alloc, part, "default_fields")?,
+        override_fields: fields(alloc, part, "override_fields")?,
+    })
+}
