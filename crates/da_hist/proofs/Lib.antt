@@ -33,3 +33,4 @@ pub mod HeardTexts
 pub mod HeardAnswers
 pub mod OwnAnswers
 pub mod HeardTests
+pub mod RunEnds

@@ -323,7 +323,7 @@ some_row {A} test (x ∷ xs) e = go (some_row test xs) (test x) refl
     go further true d = (1, x, refl, d)
     go further false d = next (further (sym (ap (λ (b : Bool). b || list_any test xs) d) ∙ e))
 
-row_any : {A : Type 0} (test : A → Bool) (xs : List A) (n : ℕ) (x : A) → slice_get xs n ≡ Some x → test x ≡ true → list_any test xs ≡ true
+pub row_any : {A : Type 0} (test : A → Bool) (xs : List A) (n : ℕ) (x : A) → slice_get xs n ≡ Some x → test x ≡ true → list_any test xs ≡ true
 row_any test [] n x e t = absurd (none-some x e)
 row_any test (y ∷ xs) zero x e t = ap (λ (b : Bool). b || list_any test xs) (ap test (same_Some y x e) ∙ t)
 row_any test (y ∷ xs) (suc n) x e t = any_second (test y) (row_any test xs n x e t)

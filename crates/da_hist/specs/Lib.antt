@@ -25,6 +25,7 @@ pub mod StandingLaws
 pub mod QueryLaws
 pub mod ReadingLaws
 pub mod HeardLaws
+pub mod EndLaws
 pub mod CheckLaws
 pub mod GrantLaws
 pub mod SuccessLaws
