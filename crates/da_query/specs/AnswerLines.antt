@@ -29,6 +29,11 @@ abbrev pub fields_of : List Bytes → Option Pairs
 fields_of [] = Some []
 fields_of (text ∷ texts) = option_and_then (with_new_field text) (fields_of texts)
 
+-- the fields of a text that is a line of nothing else; an empty one has none
+abbrev pub fields_in : Bytes → Option Pairs
+fields_in [] = Some []
+fields_in (c ∷ text) = fields_of (line_fields (c ∷ text))
+
 -- ---- reading
 
 -- an answer, and the number of the query that it is an answer to

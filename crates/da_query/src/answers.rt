@@ -2,7 +2,7 @@
 
 ghost use Rattle.std.specs.Prelude.{◌≡◌, [], Some, None, IfOk};
 ghost use Rattle.da_fields.specs.Answers.{fits};
-ghost use Rattle.da_query.specs.AnswerLines.{alone, answer_or_malformed, answer_said, answer_to, exit_of, fields_of, found_of, internal_of, new_field, numbered_answer, passed_of, plain_answer, said_of, script_answer};
+ghost use Rattle.da_query.specs.AnswerLines.{alone, answer_or_malformed, answer_said, answer_to, exit_of, fields_in, fields_of, found_of, internal_of, new_field, numbered_answer, passed_of, plain_answer, said_of, script_answer};
 
 use crate::left::FieldsLeft;
 use crate::speaker::Speaker;
@@ -190,6 +190,18 @@ fn exit(alloc: Global, fields: &mut FieldsLeft<'_>) -> Result<Option<Answer>, Al
         Some(status) => Ok(Some(Answer::Internal(Why::Exit(status)))),
         None => Ok(None),
     }
+}
+
+/// The fields of a line that is nothing else: each a key, or a key, `=` and a value, with distinct keys that aren't empty.
+/// An empty line has none. `None` exactly where the line is off this form.
+pub fn read_fields(alloc: Global, line: &[u8]) -> Result<Option<Fields>, AllocError>
+    ensures { IfOk result (λ fields. fields ≡ fields_in line.now) }
+{
+    if line.is_empty() {
+        return Ok(Some(Fields::new(alloc)));
+    }
+    let mut left = FieldsLeft::of(line);
+    fields_of(alloc, &mut left)
 }
 
 // The fields that the rest of a line is. `None` exactly where one has an empty key, or two have one key.

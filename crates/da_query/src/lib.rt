@@ -9,7 +9,7 @@ mod printing;
 mod queries;
 mod speaker;
 
-pub use answers::{fit, read_answer, read_script_answer};
+pub use answers::{fit, read_answer, read_fields, read_script_answer};
 pub use laws::{
     a_line_answers_a_query_or_is_malformed, a_query_line_is_read_as_it_spells,
     a_query_line_spells_one_query, a_script_answer_is_read_as_it_spells,
