@@ -8,6 +8,7 @@ use Rattle.da_hist.proofs.EntryInduction.{IsUndecidedAt, MoverUndecided}
 use Rattle.da_hist.proofs.EntryParts.{HeardParts, MovedParts, IsSound, sound_heard, moved_gives}
 use Rattle.da_hist.proofs.Keys.{keys_equal}
 use Rattle.da_hist.proofs.KeysLaw.{newest_has}
+use Rattle.da_hist.proofs.KnownHits.{usable_known, known_stays}
 use Rattle.da_hist.proofs.OpenQueries.{AllAsked, history_asked, due_all_asked, nowhere}
 use Rattle.da_hist.proofs.Rows.{of_changed, of_appended, of_mapped, passing, nth-changed, mapped_value}
 use Rattle.da_hist.proofs.Standing.{heard_stands, moved_stands, due_stand, tables_later, all_same}
@@ -213,11 +214,7 @@ module _ (settings : Settings) (moment : ℕ) (before : State) (entered : Input)
       where
         go : (question : Question) × (question_in (request_stage settings q.mover.request) ≡ Some question) × IsUsable settings moment origin q.mover.request question number
             × AreHits settings moment origin (with_hit origin question number q.mover.request) rest → ⊥
-        go (question, asks, u, further) = later (q.tables.queries number u.query u.stands)
-          where
-            later : (c : Asked) × (nth st.queries number ≡ Some c) × QueryStands u.query c → ⊥
-            later (c, x, s) = none-some u.answer (sym e ∙ ap (option_and_then (λ (y : Asked). option_map (λ (z : Answer × ℕ). z.0) y.answer)) x
-                ∙ ap (option_map (λ (z : Answer × ℕ). z.0)) (s.answer (u.answer, u.recorded) u.is_recorded))
+        go (question, asks, u, further) = known_stays origin st number q.tables (usable_known settings moment origin q.mover.request question number u) e
 
     moved_distinct : MovedParts settings moment before entered hits DistinctNow all_distinct
     moved_distinct = record {

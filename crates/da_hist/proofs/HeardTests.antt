@@ -7,15 +7,16 @@ use Rattle.da_hist.proofs.EntryInduction.{MoverUndecided}
 use Rattle.da_hist.proofs.EntryParts.{HeardParts, MovedParts, IsSound, sound_heard, moved_gives}
 use Rattle.da_hist.proofs.KeysLaw.{IsRecorded, told_is_recorded}
 use Rattle.da_hist.proofs.OpenQueries.{none_there}
-use Rattle.da_hist.proofs.OwnAnswers.{IsKnown, AllKnown, one_known, mover_known, known_under, told_given, given_of}
-use Rattle.da_hist.proofs.Rows.{same_or_not, nth-changed, nth-unchanged, nth-last, nth-other, nth-past, passing}
+use Rattle.da_hist.proofs.KnownHits.{IsKnown, AllKnown, one_known, mover_known, known_under, IsSameHit, same_hit, known_stays}
+use Rattle.da_hist.proofs.OwnAnswers.{told_given, given_of}
+use Rattle.da_hist.proofs.Rows.{same_or_not, nth-changed, nth-unchanged, passing, listed, listed_at, changed_listed, new_listed}
 use Rattle.da_hist.proofs.Standing.{heard_stands, moved_stands, due_stand, rest_stands, tables_later, all_same}
 use Rattle.da_base.specs.Words.{nth, changed_nth, passes_option, option_or_else}
 use Rattle.da_fields.specs.Answers.{Answers}
 use Rattle.da_fields.specs.declared.answer.Answer.{Answer}
 use Rattle.da_hist.specs.HeardLaws.{answer_under, told_query, use_by, own_use, own_tests, with_one_hit, hit_use, hit_tests, uses_heard, TestsAreHeard}
 use Rattle.da_hist.specs.History.{state, after, heard, with_due_replied, with_decision, taken}
-use Rattle.da_hist.specs.Hits.{hit_with, hit_test, used_again, answer_of}
+use Rattle.da_hist.specs.Hits.{hit_with, hit_test, used_again}
 use Rattle.da_hist.specs.Legal.{IsLegal, MoverHits}
 use Rattle.da_hist.specs.Queries.{answered_by, tested_by, use_test, with_test, is_running, first_waiting, recorded_answer, with_answer, with_new_query}
 use Rattle.da_hist.specs.ReadingLaws.{Tells}
@@ -33,33 +34,11 @@ use Rattle.da_hist.specs.declared.state.State.{State}
 
 -- ---- the tests of a row
 
-abbrev tests_of : Option Asked → List Bool
-tests_of o = option_or_else o [] (λ a. a.tests)
+abbrev tests_of : Asked → List Bool
+tests_of a = a.tests
 
 abbrev tests_at : List Asked → ℕ → List Bool
-tests_at qs k = tests_of (nth qs k)
-
-mapped_tests : (f : Asked → Asked) → ((a : Asked) → (f a).tests ≡ a.tests) → (o : Option Asked) → tests_of (option_map f o) ≡ tests_of o
-mapped_tests f h None = refl
-mapped_tests f h (Some a) = h a
-
-changed_tests : (f : Asked → Asked) → ((a : Asked) → (f a).tests ≡ a.tests) → (qs : List Asked) (m k : ℕ) → tests_at (changed_nth f qs m) k ≡ tests_at qs k
-changed_tests f h qs m k = go (same_or_not k m)
-  where
-    go : (k ≡ m) ⊎ (k ≡ m → ⊥) → tests_at (changed_nth f qs m) k ≡ tests_at qs k
-    go (inl d) = ap (tests_at (changed_nth f qs m)) d ∙ ap tests_of (nth-changed f qs m) ∙ mapped_tests f h (nth qs m) ∙ ap (tests_at qs) (sym d)
-    go (inr d) = ap tests_of (nth-unchanged f qs m k d)
-
-new_tests : (qs : List Asked) (a : Asked) (k : ℕ) → a.tests ≡ [] → tests_at (qs ++ a ∷ []) k ≡ tests_at qs k
-new_tests qs a k none = go (same_or_not k (suc (length qs)))
-  where
-    nothing : (o : Option Asked) → ((q : Asked) → o ≡ Some q → ⊥) → [] ≡ tests_of o
-    nothing None h = refl
-    nothing (Some q) h = absurd (h q refl)
-
-    go : (k ≡ suc (length qs)) ⊎ (k ≡ suc (length qs) → ⊥) → tests_at (qs ++ a ∷ []) k ≡ tests_at qs k
-    go (inl d) = ap (tests_at (qs ++ a ∷ [])) d ∙ ap tests_of (nth-last qs a) ∙ none ∙ nothing (nth qs k) (λ q e. nth-past qs q (ap (nth qs) (sym d) ∙ e))
-    go (inr d) = ap tests_of (nth-other qs a k d)
+tests_at qs k = listed_at tests_of qs k
 
 abbrev if_at : ℕ → ℕ → List Bool → List Bool
 if_at m k xs = cond (m == k) xs []
@@ -69,9 +48,9 @@ tested_more : (f : Asked → Asked) (more : List Bool) (qs : List Asked) (m : �
 tested_more f more qs m a is h k = go (same_or_not k m)
   where
     go : (k ≡ m) ⊎ (k ≡ m → ⊥) → tests_at (changed_nth f qs m) k ≡ if_at m k more ++ tests_at qs k
-    go (inl d) = ap (tests_at (changed_nth f qs m)) d ∙ ap tests_of (nth-changed f qs m ∙ ap (option_map f) is) ∙ h
-        ∙ sym (ap₂ (λ (xs ys : List Bool). xs ++ ys) (ap (λ (b : Bool). cond b more []) (eq-eqb m k (sym d))) (ap (tests_at qs) d ∙ ap tests_of is))
-    go (inr d) = ap tests_of (nth-unchanged f qs m k d) ∙ sym (ap (λ (b : Bool). cond b more [] ++ tests_at qs k) (ne_eqb m k (λ x. d (sym x))))
+    go (inl d) = ap (tests_at (changed_nth f qs m)) d ∙ ap (listed tests_of) (nth-changed f qs m ∙ ap (option_map f) is) ∙ h
+        ∙ sym (ap₂ (λ (xs ys : List Bool). xs ++ ys) (ap (λ (b : Bool). cond b more []) (eq-eqb m k (sym d))) (ap (tests_at qs) d ∙ ap (listed tests_of) is))
+    go (inr d) = ap (listed tests_of) (nth-unchanged f qs m k d) ∙ sym (ap (λ (b : Bool). cond b more [] ++ tests_at qs k) (ne_eqb m k (λ x. d (sym x))))
 
 with_test_is : (test : Option Bool) (tests : List Bool) → with_test test tests ≡ option_to_list test ++ tests
 with_test_is None tests = refl
@@ -133,7 +112,7 @@ module _ (settings : Settings) (e : Entry) (origin : State) where
   end_tested conn = untouched
 
   take_tested : e.input ≡ Take → Tested (record before { queries = changed_nth (taken e.moment) before.queries (first_waiting before) })
-  take_tested l k = changed_tests (taken e.moment) (λ a. refl) before.queries (first_waiting before) k
+  take_tested l k = changed_listed tests_of (taken e.moment) (λ a. refl) before.queries (first_waiting before) k
       ∙ sym (ap (λ (o : Option ℕ). option_or_else o [] (own_tests settings before.requests before.queries (changed_nth (taken e.moment) before.queries (first_waiting before)) k) ++ tests_at before.queries k) (ap told_query l))
 
   -- an answer is told
@@ -208,16 +187,12 @@ module _ (settings : Settings) (e : Entry) (origin : State) where
       pub finds : (r : Request) → hit_use settings r (nth origin.queries number) ≡ option_to_list (hit_test settings p.0 (Some r))
 
     is_hit : (st : State) (number : ℕ) (a : Asked) (p : Answer × ℕ) → nth st.queries number ≡ Some a → a.answer ≡ Some p → TablesStand origin st → IsKnown origin number → IsHit st number a p
-    is_hit st number a p is x t k = go (t.queries number k.row k.stands)
-      where
-        go : (c : Asked) × (nth st.queries number ≡ Some c) × QueryStands k.row c → IsHit st number a p
-        go (c, at, s) =
-            let same : c ≡ a = same_Some c a (sym at ∙ is) in
-            let pair : k.pair ≡ p = same_Some k.pair p (sym (s.answer k.pair k.is_answered) ∙ ap (λ (y : Asked). y.answer) same ∙ x) in
-            record {
-              under = known_under origin.queries number k.row k.pair k.stands k.is_answered ∙ ap₂ (λ (q : Question) (y : Answer × ℕ). (q.db, y.0) ∷ []) (sym s.question ∙ ap (λ (y : Asked). y.question) same) pair;
-              finds = λ r. ap (hit_use settings r) k.stands ∙ ap (λ (o : Option (Answer × ℕ)). option_or_else o [] (λ y. option_to_list (hit_test settings y.0 (Some r)))) (k.is_answered ∙ ap (λ (y : Answer × ℕ). Some y) pair);
-            }
+    is_hit st number a p is x t k =
+        let s : IsSameHit origin number k a p = same_hit origin st number a p is x t k in
+        record {
+          under = known_under origin.queries number k.row k.pair k.stands k.is_answered ∙ ap₂ (λ (q : Question) (y : Answer × ℕ). (q.db, y.0) ∷ []) s.question s.pair;
+          finds = λ r. ap (hit_use settings r) k.stands ∙ ap (λ (o : Option (Answer × ℕ)). option_or_else o [] (λ y. option_to_list (hit_test settings y.0 (Some r)))) (k.is_answered ∙ ap (λ (y : Answer × ℕ). Some y) s.pair);
+        }
 
     hit_now : (st : State) (mover number : ℕ) (done rest : List ℕ) (a : Asked) (p : Answer × ℕ) → nth st.queries number ≡ Some a → a.answer ≡ Some p → done ++ number ∷ rest ≡ e.hits →
         TablesStand origin (hit_with settings mover number a p.0 st) → (o : Option Request) → row (Some mover) ≡ o → HitsNow st (Some mover) done → HitsNow (hit_with settings mover number a p.0 st) (Some mover) (done ++ number ∷ [])
@@ -242,22 +217,13 @@ module _ (settings : Settings) (e : Entry) (origin : State) where
         hit : IsHit st number a p
         hit = is_hit st number a p is x q.tables (one_known origin done rest number (subst (AllKnown origin) (sym w) known))
 
-    missed : (st : State) (number : ℕ) (done rest : List ℕ) → answer_of st number ≡ None → done ++ number ∷ rest ≡ e.hits → TablesStand origin st → ⊥
-    missed st number done rest x w t = go (one_known origin done rest number (subst (AllKnown origin) (sym w) known))
-      where
-        go : IsKnown origin number → ⊥
-        go k = later (t.queries number k.row k.stands)
-          where
-            later : (c : Asked) × (nth st.queries number ≡ Some c) × QueryStands k.row c → ⊥
-            later (c, y, s) = none-some k.pair.0 (sym x ∙ ap (option_and_then (λ (z : Asked). option_map (λ (w : Answer × ℕ). w.0) z.answer)) y ∙ ap (option_map (λ (z : Answer × ℕ). z.0)) (s.answer k.pair k.is_answered))
-
     moved_hits : MovedParts settings e.moment before e.input e.hits HitsNow hits_after
     moved_hits = record {
       hit = λ st mover number done rest a p is x w u q. hit_now st mover number done rest a p is x w (moved_stand.hit st mover number done rest a p is x w u q.tables) (row (Some mover)) refl q;
-      misses = λ st mover number done rest x w q. absurd (missed st number done rest x w q.tables);
+      misses = λ st mover number done rest x w q. absurd (known_stays origin st number q.tables (one_known origin done rest number (subst (AllKnown origin) (sym w) known)) x);
       rests = λ st q. q.tests;
       awaits = λ st n r text is u x q. q.tests;
-      asks = λ st n r question is u x q k. new_tests st.queries _ k refl ∙ q.tests k;
+      asks = λ st n r question is u x q k. new_listed tests_of st.queries _ k refl ∙ q.tests k;
       decides = λ st n r d is u x q. q.tests;
       kept = λ st m query given a l run is k q. q;
     }
@@ -340,4 +306,4 @@ all_tests settings (e ∷ g) legal k =
     ++ (option_or_else (told_query e.input) [] (own_tests settings (with_due_replied settings e.moment (state settings g)).requests (state settings g).queries (after settings (state settings g) e).queries k) ++ xs)) (all_tests settings g legal.0 k)
 
 pub tests_are_heard : TestsAreHeard
-tests_are_heard settings h legal k a is = sym (ap tests_of is) ∙ all_tests settings h legal k
+tests_are_heard settings h legal k a is = sym (ap (listed tests_of) is) ∙ all_tests settings h legal k

@@ -3,7 +3,7 @@ use Rattle.std.proofs.Common.{◌≡◌, ◌⊎◌, inl, inr, refl, sym, ◌∙�
 use Rattle.std.proofs.lemmas.Option.{none-some, same_Some}
 use Rattle.da_hist.proofs.Entries.{by_test, and_second}
 use Rattle.da_hist.proofs.EntryParts.{HeardParts, MovedParts, HearsClient, IsMade, MadeLogin, MadeLookup, an_entry_gives}
-use Rattle.da_hist.proofs.Rows.{same_or_not, nth-changed, nth-unchanged, nth-map, nth-last, nth-other, nth-past}
+use Rattle.da_hist.proofs.Rows.{same_or_not, nth-changed, nth-unchanged, listed, listed_at, changed_listed, map_listed, new_listed}
 use Rattle.da_base.specs.Words.{Bytes, nth, changed_nth, passes_option, option_or_else}
 use Rattle.da_fields.specs.declared.answer.Answer.{Answer}
 use Rattle.da_msgs.specs.ClientMessages.{client_message}
@@ -32,36 +32,11 @@ use Rattle.da_userdb.specs.declared.database.UserChain.TheVariants.{Ask as AskUs
 
 -- ---- the texts of a row
 
-abbrev texts_of : Option Request → List Bytes
-texts_of o = option_or_else o [] (λ r. texts_in r.body)
+abbrev texts_of : Request → List Bytes
+texts_of r = texts_in r.body
 
 abbrev texts_at : List Request → ℕ → List Bytes
-texts_at rs n = texts_of (nth rs n)
-
-mapped_texts : (f : Request → Request) → ((r : Request) → (f r).body ≡ r.body) → (o : Option Request) → texts_of (option_map f o) ≡ texts_of o
-mapped_texts f h None = refl
-mapped_texts f h (Some r) = ap texts_in (h r)
-
-changed_texts : (f : Request → Request) → ((r : Request) → (f r).body ≡ r.body) → (rs : List Request) (m n : ℕ) → texts_at (changed_nth f rs m) n ≡ texts_at rs n
-changed_texts f h rs m n = go (same_or_not n m)
-  where
-    go : (n ≡ m) ⊎ (n ≡ m → ⊥) → texts_at (changed_nth f rs m) n ≡ texts_at rs n
-    go (inl d) = ap (texts_at (changed_nth f rs m)) d ∙ ap texts_of (nth-changed f rs m) ∙ mapped_texts f h (nth rs m) ∙ ap (texts_at rs) (sym d)
-    go (inr d) = ap texts_of (nth-unchanged f rs m n d)
-
-map_texts : (f : Request → Request) → ((r : Request) → (f r).body ≡ r.body) → (rs : List Request) (n : ℕ) → texts_at (map f rs) n ≡ texts_at rs n
-map_texts f h rs n = ap texts_of (nth-map f rs n) ∙ mapped_texts f h (nth rs n)
-
-new_texts : (rs : List Request) (r : Request) (n : ℕ) → texts_in r.body ≡ [] → texts_at (rs ++ r ∷ []) n ≡ texts_at rs n
-new_texts rs r n none = go (same_or_not n (suc (length rs)))
-  where
-    nothing : (o : Option Request) → ((q : Request) → o ≡ Some q → ⊥) → [] ≡ texts_of o
-    nothing None h = refl
-    nothing (Some q) h = absurd (h q refl)
-
-    go : (n ≡ suc (length rs)) ⊎ (n ≡ suc (length rs) → ⊥) → texts_at (rs ++ r ∷ []) n ≡ texts_at rs n
-    go (inl d) = ap (texts_at (rs ++ r ∷ [])) d ∙ ap texts_of (nth-last rs r) ∙ none ∙ nothing (nth rs n) (λ q e. nth-past rs q (ap (nth rs) (sym d) ∙ e))
-    go (inr d) = ap texts_of (nth-other rs r n d)
+texts_at rs n = listed_at texts_of rs n
 
 abbrev no_texts : Bool → List Bytes
 no_texts b = cond b [] []
@@ -130,9 +105,9 @@ module _ (settings : Settings) (e : Entry) (origin : State) where
       body_added (LooksUp grant) x = absurd (true≢false (sym x))
 
       go : (n ≡ k) ⊎ (n ≡ k → ⊥) → texts_at (changed_nth (with_text text) before.requests k) n ≡ texts_at before.requests n ++ said (Some k) n
-      go (inl d) = ap (texts_at (changed_nth (with_text text) before.requests k)) d ∙ ap texts_of (nth-changed (with_text text) before.requests k ∙ ap (option_map (with_text text)) is) ∙ body_added r.body a
-          ∙ sym (ap₂ (λ (xs ys : List Bytes). xs ++ ys) (ap (texts_at before.requests) d ∙ ap texts_of is) (ap (λ (b : Bool). cond b (continued_text (message_in before.connections e.input)) []) (eq-eqb k n (sym d)) ∙ c))
-      go (inr d) = ap texts_of (nth-unchanged (with_text text) before.requests k n d)
+      go (inl d) = ap (texts_at (changed_nth (with_text text) before.requests k)) d ∙ ap (listed texts_of) (nth-changed (with_text text) before.requests k ∙ ap (option_map (with_text text)) is) ∙ body_added r.body a
+          ∙ sym (ap₂ (λ (xs ys : List Bytes). xs ++ ys) (ap (texts_at before.requests) d ∙ ap (listed texts_of) is) (ap (λ (b : Bool). cond b (continued_text (message_in before.connections e.input)) []) (eq-eqb k n (sym d)) ∙ c))
+      go (inr d) = ap (listed texts_of) (nth-unchanged (with_text text) before.requests k n d)
           ∙ sym (ap (λ (b : Bool). texts_at before.requests n ++ cond b (continued_text (message_in before.connections e.input)) []) (ne_eqb k n (λ x. d (sym x))) ∙ append-nil (texts_at before.requests n))
 
   -- only a client's login awaits messages
@@ -162,29 +137,29 @@ module _ (settings : Settings) (e : Entry) (origin : State) where
 
   end_texts : (conn n : ℕ) → texts_at (with_end conn before).requests n ≡ texts_at before.requests n ++ said None n
   unfolding with_end
-  end_texts conn n = still (map (cancelled_of conn) before.requests) (map_texts (cancelled_of conn) (cancelled_body conn) before.requests) n
+  end_texts conn n = still (map (cancelled_of conn) before.requests) (map_listed texts_of (cancelled_of conn) (λ r. ap texts_in (cancelled_body conn r)) before.requests) n
 
   heard_texts : HeardParts settings e.moment before e.input (λ st m. texts_now st m [])
   heard_texts = record {
     opens = λ kind random l p. p;
     tells = λ conn change h p. p;
     ends = λ conn x p. end_texts conn;
-    cancels = λ n x p. still (changed_nth cancelled before.requests n) (changed_texts cancelled (λ r. refl) before.requests n);
+    cancels = λ n x p. still (changed_nth cancelled before.requests n) (changed_listed texts_of cancelled (λ r. refl) before.requests n);
     texts = λ conn id random text m r is w p. added _ text r is (awaiting_login r w) (ap continued_text (of_client conn random (Cont id text) m));
-    makes = λ conn id random body m p. silent _ _ (of_made conn id random body m).0 (λ n. new_texts before.requests (new_request e.moment conn id random body) n (of_made conn id random body m).1);
+    makes = λ conn id random body m p. silent _ _ (of_made conn id random body m).0 (λ n. new_listed texts_of before.requests (new_request e.moment conn id random body) n (of_made conn id random body m).1);
     takes = λ l p. p;
-    answers = λ query given a g is run u p. silent _ _ (of_told query given g) (changed_texts (with_answer a.question.db _) (λ r. refl) before.requests a.request);
-    lates = λ query given a g is run u p. still _ (changed_texts (with_late_answer a.question.db _) (late_body a.question.db _) before.requests a.request);
+    answers = λ query given a g is run u p. silent _ _ (of_told query given g) (changed_listed texts_of (with_answer a.question.db _) (λ r. refl) before.requests a.request);
+    lates = λ query given a g is run u p. still _ (changed_listed texts_of (with_late_answer a.question.db _) (λ r. ap texts_in (late_body a.question.db _ r)) before.requests a.request);
   }
 
   moved_texts : MovedParts settings e.moment before e.input e.hits texts_now texts_after
   moved_texts = record {
-    hit = λ st mover number done rest a p is x w u q n. changed_texts (with_answer a.question.db p.0) (λ r. refl) st.requests mover n ∙ q n;
+    hit = λ st mover number done rest a p is x w u q n. changed_listed texts_of (with_answer a.question.db p.0) (λ r. refl) st.requests mover n ∙ q n;
     misses = λ st mover number done rest x w q. q;
     rests = λ st q. q;
     awaits = λ st n r text is u x q. q;
     asks = λ st n r question is u x q. q;
-    decides = λ st k r d is u x q n. changed_texts (with_decision settings e.moment) (λ s. due_body e.moment (record s { decided = Some e.moment })) st.requests k n ∙ q n;
+    decides = λ st k r d is u x q n. changed_listed texts_of (with_decision settings e.moment) (λ s. ap texts_in (due_body e.moment (record s { decided = Some e.moment }))) st.requests k n ∙ q n;
     kept = λ st m query given a l run is k q. q;
   }
 
@@ -192,7 +167,7 @@ module _ (settings : Settings) (e : Entry) (origin : State) where
   unfolding with_due_replied
   entry_texts n =
       an_entry_gives settings origin e texts_now texts_after heard_texts moved_texts (still before.requests (λ m. refl)) n
-      ∙ ap (λ (xs : List Bytes). xs ++ said (heard settings e.moment e.input before).mover n) (map_texts (replied_if_due settings e.moment) (due_body e.moment) origin.requests n)
+      ∙ ap (λ (xs : List Bytes). xs ++ said (heard settings e.moment e.input before).mover n) (map_listed texts_of (replied_if_due settings e.moment) (λ r. ap texts_in (due_body e.moment r)) origin.requests n)
 
 -- ---- a history
 
@@ -203,4 +178,4 @@ all_texts settings [] (suc n) = refl
 all_texts settings (e ∷ g) n = entry_texts settings e (state settings g) n ∙ ap (λ (xs : List Bytes). xs ++ said settings e (state settings g) (heard settings e.moment e.input (with_due_replied settings e.moment (state settings g))).mover n) (all_texts settings g n)
 
 pub texts_are_heard : TextsAreHeard
-texts_are_heard settings h n r is = sym (ap texts_of is) ∙ all_texts settings h n
+texts_are_heard settings h n r is = sym (ap (listed texts_of) is) ∙ all_texts settings h n

@@ -34,3 +34,4 @@ pub mod HeardAnswers
 pub mod OwnAnswers
 pub mod HeardTests
 pub mod RunEnds
+pub mod KnownHits

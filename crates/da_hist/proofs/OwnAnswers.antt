@@ -5,8 +5,9 @@ use Rattle.da_hist.proofs.Entries.{by_test, and_first, and_second, not_true}
 use Rattle.da_hist.proofs.EntryInduction.{MoverUndecided}
 use Rattle.da_hist.proofs.EntryParts.{HeardParts, MovedParts, IsSound, sound_heard, moved_gives}
 use Rattle.da_hist.proofs.KeysLaw.{IsRecorded, told_is_recorded}
+use Rattle.da_hist.proofs.KnownHits.{IsKnown, AllKnown, one_known, mover_known, known_under, told_row, IsSameHit, same_hit, known_stays}
 use Rattle.da_hist.proofs.OpenQueries.{AllAsked, history_asked, due_all_asked, none_there}
-use Rattle.da_hist.proofs.Rows.{same_or_not, nth-changed, nth-unchanged, nth-map, nth-last, nth-other, nth-past, passing}
+use Rattle.da_hist.proofs.Rows.{same_or_not, nth-changed, nth-unchanged, passing, listed, listed_at, changed_listed, map_listed, new_listed}
 use Rattle.da_hist.proofs.Standing.{heard_stands, moved_stands, due_stand, rest_stands, tables_later, all_same}
 use Rattle.da_base.specs.Words.{nth, changed_nth, passes_option, option_or_else}
 use Rattle.da_fields.specs.Answers.{Answers}
@@ -15,7 +16,7 @@ use Rattle.da_fields.specs.declared.answer.Answer.TheVariants.{Internal}
 use Rattle.da_fields.specs.declared.answer.Why.TheVariants.{Late as WasLate}
 use Rattle.da_hist.specs.HeardLaws.{if_moved, answer_under, told_query, own_answer, answers_heard, AnswersAreHeard}
 use Rattle.da_hist.specs.History.{state, after, heard, with_due_replied, with_decision, replied_if_due, taken}
-use Rattle.da_hist.specs.Hits.{AreHits, IsUsable, with_hit, hit_with, answer_of}
+use Rattle.da_hist.specs.Hits.{hit_with}
 use Rattle.da_hist.specs.Legal.{IsLegal, MoverHits}
 use Rattle.da_hist.specs.LinesHeard.{new_request, with_text}
 use Rattle.da_hist.specs.Queries.{answered_by, is_running, recorded_answer, with_answer, with_late_answer}
@@ -35,36 +36,11 @@ use Rattle.da_hist.specs.declared.state.State.{State}
 
 -- ---- the answers of a row
 
-abbrev answers_of : Option Request → Answers
-answers_of o = option_or_else o [] (λ r. r.answers)
+abbrev answers_of : Request → Answers
+answers_of r = r.answers
 
 abbrev answers_at : List Request → ℕ → Answers
-answers_at rs n = answers_of (nth rs n)
-
-mapped_answers : (f : Request → Request) → ((r : Request) → (f r).answers ≡ r.answers) → (o : Option Request) → answers_of (option_map f o) ≡ answers_of o
-mapped_answers f h None = refl
-mapped_answers f h (Some r) = h r
-
-changed_answers : (f : Request → Request) → ((r : Request) → (f r).answers ≡ r.answers) → (rs : List Request) (m n : ℕ) → answers_at (changed_nth f rs m) n ≡ answers_at rs n
-changed_answers f h rs m n = go (same_or_not n m)
-  where
-    go : (n ≡ m) ⊎ (n ≡ m → ⊥) → answers_at (changed_nth f rs m) n ≡ answers_at rs n
-    go (inl d) = ap (answers_at (changed_nth f rs m)) d ∙ ap answers_of (nth-changed f rs m) ∙ mapped_answers f h (nth rs m) ∙ ap (answers_at rs) (sym d)
-    go (inr d) = ap answers_of (nth-unchanged f rs m n d)
-
-map_answers : (f : Request → Request) → ((r : Request) → (f r).answers ≡ r.answers) → (rs : List Request) (n : ℕ) → answers_at (map f rs) n ≡ answers_at rs n
-map_answers f h rs n = ap answers_of (nth-map f rs n) ∙ mapped_answers f h (nth rs n)
-
-new_answers : (rs : List Request) (r : Request) (n : ℕ) → r.answers ≡ [] → answers_at (rs ++ r ∷ []) n ≡ answers_at rs n
-new_answers rs r n none = go (same_or_not n (suc (length rs)))
-  where
-    nothing : (o : Option Request) → ((q : Request) → o ≡ Some q → ⊥) → [] ≡ answers_of o
-    nothing None h = refl
-    nothing (Some q) h = absurd (h q refl)
-
-    go : (n ≡ suc (length rs)) ⊎ (n ≡ suc (length rs) → ⊥) → answers_at (rs ++ r ∷ []) n ≡ answers_at rs n
-    go (inl d) = ap (answers_at (rs ++ r ∷ [])) d ∙ ap answers_of (nth-last rs r) ∙ none ∙ nothing (nth rs n) (λ q e. nth-past rs q (ap (nth rs) (sym d) ∙ e))
-    go (inr d) = ap answers_of (nth-other rs r n d)
+answers_at rs n = listed_at answers_of rs n
 
 -- one request has one answer more
 abbrev if_same : ℕ → ℕ → Answers → Answers
@@ -75,46 +51,15 @@ answered_more : (f : Request → Request) (more : Answers) (rs : List Request) (
 answered_more f more rs m r is h n = go (same_or_not n m)
   where
     go : (n ≡ m) ⊎ (n ≡ m → ⊥) → answers_at (changed_nth f rs m) n ≡ answers_at rs n ++ if_same m n more
-    go (inl d) = ap (answers_at (changed_nth f rs m)) d ∙ ap answers_of (nth-changed f rs m ∙ ap (option_map f) is) ∙ h
-        ∙ sym (ap₂ (λ (xs ys : Answers). xs ++ ys) (ap (answers_at rs) d ∙ ap answers_of is) (ap (λ (b : Bool). cond b more []) (eq-eqb m n (sym d))))
-    go (inr d) = ap answers_of (nth-unchanged f rs m n d) ∙ sym (ap (λ (b : Bool). answers_at rs n ++ cond b more []) (ne_eqb m n (λ x. d (sym x))) ∙ append-nil (answers_at rs n))
+    go (inl d) = ap (answers_at (changed_nth f rs m)) d ∙ ap (listed answers_of) (nth-changed f rs m ∙ ap (option_map f) is) ∙ h
+        ∙ sym (ap₂ (λ (xs ys : Answers). xs ++ ys) (ap (answers_at rs) d ∙ ap (listed answers_of) is) (ap (λ (b : Bool). cond b more []) (eq-eqb m n (sym d))))
+    go (inr d) = ap (listed answers_of) (nth-unchanged f rs m n d) ∙ sym (ap (λ (b : Bool). answers_at rs n ++ cond b more []) (ne_eqb m n (λ x. d (sym x))) ∙ append-nil (answers_at rs n))
 
 abbrev under : ℕ → Option (Answer × ℕ) → Answers
 under db o = option_or_else o [] (λ p. (db, p.0) ∷ [])
 
 abbrev no_answers : Bool → Answers
 no_answers b = cond b [] []
-
--- ---- hits are known
-
--- the query has an answer
-pub record IsKnown (st : State) (n : ℕ) : Type 0 where
-  pub row : Asked
-  pub stands : nth st.queries n ≡ Some row
-  pub pair : Answer × ℕ
-  pub is_answered : row.answer ≡ Some pair
-
-abbrev pub AllKnown : State → List ℕ → Type 0
-AllKnown st [] = Unit {0}
-AllKnown st (n ∷ ns) = IsKnown st n × AllKnown st ns
-
-hits_known : (settings : Settings) (moment : ℕ) (st : State) (r : Request) (ns : List ℕ) → AreHits settings moment st r ns → AllKnown st ns
-hits_known settings moment st r [] h = tt
-hits_known settings moment st r (n ∷ ns) h = (record { row = h.2.query; stands = h.2.stands; pair = (h.2.answer, h.2.recorded); is_answered = h.2.is_recorded }, hits_known settings moment st (with_hit st h.0 n r) ns h.3)
-
-pub mover_known : (settings : Settings) (moment : ℕ) (st : State) (o : Option Request) (ns : List ℕ) → MoverHits settings moment st o ns → AllKnown st ns
-mover_known settings moment st None ns h = subst (AllKnown st) (sym h) tt
-mover_known settings moment st (Some r) ns h = hits_known settings moment st r ns h
-
-pub one_known : (st : State) (done rest : List ℕ) (n : ℕ) → AllKnown st (done ++ n ∷ rest) → IsKnown st n
-one_known st [] rest n all = all.0
-one_known st (m ∷ done) rest n all = one_known st done rest n all.1
-
-abbrev told_row : Option Asked → Answers
-told_row o = option_or_else o [] (λ a. option_or_else a.answer [] (λ p. (a.question.db, p.0) ∷ []))
-
-pub known_under : (qs : List Asked) (k : ℕ) (a : Asked) (p : Answer × ℕ) → nth qs k ≡ Some a → a.answer ≡ Some p → answer_under qs k ≡ (a.question.db, p.0) ∷ []
-known_under qs k a p is e = ap told_row is ∙ ap (λ (o : Option (Answer × ℕ)). option_or_else o [] (λ p. (a.question.db, p.0) ∷ [])) e
 
 -- an input that tells an answer names its query
 pub told_given : (i : Input) (query : ℕ) (given : Answer) → Tells i query given → told_query i ≡ Some query
@@ -192,7 +137,7 @@ module _ (settings : Settings) (e : Entry) (origin : State) where
 
   end_grew : (conn : ℕ) → Grew (with_end conn before)
   unfolding with_end
-  end_grew conn = same_grew (map (cancelled_of conn) before.requests) (map_answers (cancelled_of conn) (cancelled_answers conn) before.requests)
+  end_grew conn = same_grew (map (cancelled_of conn) before.requests) (map_listed answers_of (cancelled_of conn) (cancelled_answers conn) before.requests)
 
   take_grew : e.input ≡ Take → (qs : List Asked) → Grew (record before { queries = qs })
   take_grew l qs n = sym (ap (λ (o : Option ℕ). answers_at before.requests n ++ option_or_else o [] (own_answer before.queries qs n)) (ap told_query l) ∙ append-nil (answers_at before.requests n))
@@ -215,9 +160,9 @@ module _ (settings : Settings) (e : Entry) (origin : State) where
       opens = λ kind random l p. p;
       tells = λ conn change k p. p;
       ends = λ conn x p. end_grew conn;
-      cancels = λ n x p. same_grew _ (changed_answers cancelled (λ r. refl) before.requests n);
-      texts = λ conn id random text m r is w p. same_grew _ (changed_answers (with_text text) (λ r. refl) before.requests _);
-      makes = λ conn id random body m p. same_grew _ (λ n. new_answers before.requests (new_request e.moment conn id random body) n refl);
+      cancels = λ n x p. same_grew _ (changed_listed answers_of cancelled (λ r. refl) before.requests n);
+      texts = λ conn id random text m r is w p. same_grew _ (changed_listed answers_of (with_text text) (λ r. refl) before.requests _);
+      makes = λ conn id random body m p. same_grew _ (λ n. new_listed answers_of before.requests (new_request e.moment conn id random body) n refl);
       takes = λ l p. take_grew l _;
       answers = λ query given a g is run u p. of_request query a (recorded_answer a.question.kind given) is run (with_answer a.question.db (recorded_answer a.question.kind given)) (λ r d. refl) (told_given e.input query given g);
       lates = λ query given a g is run u p. of_request query a (recorded_answer a.question.kind given) is run (with_late_answer a.question.db (recorded_answer a.question.kind given))
@@ -251,15 +196,10 @@ module _ (settings : Settings) (e : Entry) (origin : State) where
     flat-more [] k = append-nil (answer_under origin.queries k)
     flat-more (x ∷ xs) k = ap (λ (ys : Answers). answer_under origin.queries x ++ ys) (flat-more xs k) ∙ sym (append_assoc (answer_under origin.queries x) (flat_map (answer_under origin.queries) xs) (answer_under origin.queries k))
 
-    hit_under : (st : State) (number : ℕ) (a : Asked) (p : Answer × ℕ) → nth st.queries number ≡ Some a → a.answer ≡ Some p → TablesStand origin st → IsKnown origin number → answer_under origin.queries number ≡ (a.question.db, p.0) ∷ []
-    hit_under st number a p is x t k = go (t.queries number k.row k.stands)
-      where
-        go : (c : Asked) × (nth st.queries number ≡ Some c) × QueryStands k.row c → answer_under origin.queries number ≡ (a.question.db, p.0) ∷ []
-        go (c, at, s) =
-            let same : c ≡ a = same_Some c a (sym at ∙ is) in
-            let pair : k.pair ≡ p = same_Some k.pair p (sym (s.answer k.pair k.is_answered) ∙ ap (λ (y : Asked). y.answer) same ∙ x) in
-            known_under origin.queries number k.row k.pair k.stands k.is_answered
-            ∙ ap₂ (λ (q : Question) (y : Answer × ℕ). (q.db, y.0) ∷ []) (sym s.question ∙ ap (λ (y : Asked). y.question) same) pair
+    hit_under : (st : State) (number : ℕ) (a : Asked) (p : Answer × ℕ) → nth st.queries number ≡ Some a → a.answer ≡ Some p → TablesStand origin st → (k : IsKnown origin number) → answer_under origin.queries number ≡ (a.question.db, p.0) ∷ []
+    hit_under st number a p is x t k =
+        let s : IsSameHit origin number k a p = same_hit origin st number a p is x t k in
+        known_under origin.queries number k.row k.pair k.stands k.is_answered ∙ ap₂ (λ (q : Question) (y : Answer × ℕ). (q.db, y.0) ∷ []) s.question s.pair
 
     hit_answers : (st : State) (mover number : ℕ) (done : List ℕ) (a : Asked) (p : Answer × ℕ) → IsKnown origin number → nth st.queries number ≡ Some a → a.answer ≡ Some p → (r : Request) → nth st.requests mover ≡ Some r →
         HitsNow st (Some mover) done → HasHits (hit_with settings mover number a p.0 st) (Some mover) (done ++ number ∷ [])
@@ -281,26 +221,17 @@ module _ (settings : Settings) (e : Entry) (origin : State) where
         tables = moved_stand.hit st mover number done rest a p is x w u q.tables;
         answers = of_mover st mover number done rest a p is x w q (passing is_undecided (nth st.requests mover) u);
       };
-      misses = λ st mover number done rest x w q. absurd (missed st number done rest x w q.tables);
+      misses = λ st mover number done rest x w q. absurd (known_stays origin st number q.tables (one_known origin done rest number (subst (AllKnown origin) (sym w) known)) x);
       rests = λ st q. none st q.answers;
       awaits = λ st n r text is u x q. q.answers;
       asks = λ st n r question is u x q. q.answers;
-      decides = λ st k r d is u x q n. changed_answers (with_decision settings e.moment) (λ s. due_answers e.moment (record s { decided = Some e.moment })) st.requests k n ∙ q.answers n;
+      decides = λ st k r d is u x q n. changed_listed answers_of (with_decision settings e.moment) (λ s. due_answers e.moment (record s { decided = Some e.moment })) st.requests k n ∙ q.answers n;
       kept = λ st m query given a l run is k q. q;
     }
       where
         of_mover : (st : State) (mover number : ℕ) (done rest : List ℕ) (a : Asked) (p : Answer × ℕ) → nth st.queries number ≡ Some a → a.answer ≡ Some p → done ++ number ∷ rest ≡ e.hits → HitsNow st (Some mover) done →
             (r : Request) × (nth st.requests mover ≡ Some r) × (is_undecided r ≡ true) → HasHits (hit_with settings mover number a p.0 st) (Some mover) (done ++ number ∷ [])
         of_mover st mover number done rest a p is x w q (r, at, u) = hit_answers st mover number done a p (one_known origin done rest number (subst (AllKnown origin) (sym w) known)) is x r at q
-
-        missed : (st : State) (number : ℕ) (done rest : List ℕ) → answer_of st number ≡ None → done ++ number ∷ rest ≡ e.hits → TablesStand origin st → ⊥
-        missed st number done rest x w t = go (one_known origin done rest number (subst (AllKnown origin) (sym w) known))
-          where
-            go : IsKnown origin number → ⊥
-            go k = later (t.queries number k.row k.stands)
-              where
-                later : (c : Asked) × (nth st.queries number ≡ Some c) × QueryStands k.row c → ⊥
-                later (c, y, s) = none-some k.pair.0 (sym x ∙ ap (option_and_then (λ (z : Asked). option_map (λ (w : Answer × ℕ). w.0) z.answer)) y ∙ ap (option_map (λ (z : Answer × ℕ). z.0)) (s.answer k.pair k.is_answered))
 
         none : (st : State) → HasHits st None [] → HasHits st None e.hits
         none st q = q
@@ -367,7 +298,7 @@ one_entry settings e st asked hits n =
         sound_heard settings e.moment before e.input (λ x m. TablesStand before x) (heard_stands settings e.moment before before e.input e.hits) e.input refl (all_same before) in
     entry_answers settings e st (tables_later st before h.state (due_stand settings e.moment st) s.fact) (mover_known settings e.moment st _ e.hits hits) (due_all_asked settings e.moment st asked) n
     ∙ ap (λ (xs : Answers). xs ++ option_or_else (told_query e.input) [] (own_answer st.queries (after settings st e).queries n) ++ if_moved h.mover n (flat_map (answer_under st.queries) e.hits))
-    (map_answers (replied_if_due settings e.moment) (due_answers settings e st e.moment) st.requests n)
+    (map_listed answers_of (replied_if_due settings e.moment) (due_answers settings e st e.moment) st.requests n)
 
 all_answers : (settings : Settings) (h : List Entry) → IsLegal settings h → (n : ℕ) → answers_at (state settings h).requests n ≡ answers_heard settings h n
 all_answers settings [] legal zero = refl
@@ -378,4 +309,4 @@ all_answers settings (e ∷ g) legal n =
     ++ if_moved (heard settings e.moment e.input (with_due_replied settings e.moment (state settings g))).mover n (flat_map (answer_under (state settings g).queries) e.hits)) (all_answers settings g legal.0 n)
 
 pub answers_are_heard : AnswersAreHeard
-answers_are_heard settings h legal n r is = sym (ap answers_of is) ∙ all_answers settings h legal n
+answers_are_heard settings h legal n r is = sym (ap (listed answers_of) is) ∙ all_answers settings h legal n

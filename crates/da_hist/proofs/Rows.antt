@@ -3,7 +3,7 @@ use Rattle.std.proofs.Common.{◌≡◌, ◌≢◌, ◌⊎◌, inl, inr, refl, s
 use Rattle.std.specs.List.{list_any}
 use Rattle.std.proofs.lemmas.Bool.{eqb-true}
 use Rattle.std.proofs.lemmas.Option.{none-some, same_Some}
-use Rattle.da_base.specs.Words.{nth, changed_at, changed_nth, passes_option, number_where, numbers_where, one_further}
+use Rattle.da_base.specs.Words.{nth, changed_at, changed_nth, passes_option, number_where, numbers_where, one_further, option_or_else}
 
 -- equal or not
 pub same_or_not : (m n : ℕ) → (m ≡ n) ⊎ (m ≢ n)
@@ -198,3 +198,39 @@ is_listed test (suc n) xs = ap (λ (k : ℕ). list_any (λ j. j == k) (numbers_w
   where
     one_more : suc n ≡ n + 1
     one_more = omega arith
+
+-- ---- a list that each row has
+
+abbrev pub listed : {A B : Type 0} → (A → List B) → Option A → List B
+listed value o = option_or_else o [] value
+
+-- the list of row n, empty where there is none
+abbrev pub listed_at : {A B : Type 0} → (A → List B) → List A → ℕ → List B
+listed_at value xs n = listed value (nth xs n)
+
+module _ {A B : Type 0} (value : A → List B) where
+  mapped_listed : (f : A → A) → ((x : A) → value (f x) ≡ value x) → (o : Option A) → listed value (option_map f o) ≡ listed value o
+  mapped_listed f h None = refl
+  mapped_listed f h (Some x) = h x
+
+  pub changed_listed : (f : A → A) → ((x : A) → value (f x) ≡ value x) → (xs : List A) (m n : ℕ) → listed_at value (changed_nth f xs m) n ≡ listed_at value xs n
+  changed_listed f h xs m n = go (same_or_not n m)
+    where
+      go : (n ≡ m) ⊎ (n ≢ m) → listed_at value (changed_nth f xs m) n ≡ listed_at value xs n
+      go (inl d) = ap (listed_at value (changed_nth f xs m)) d ∙ ap (listed value) (nth-changed f xs m) ∙ mapped_listed f h (nth xs m) ∙ ap (listed_at value xs) (sym d)
+      go (inr d) = ap (listed value) (nth-unchanged f xs m n d)
+
+  pub map_listed : (f : A → A) → ((x : A) → value (f x) ≡ value x) → (xs : List A) (n : ℕ) → listed_at value (map f xs) n ≡ listed_at value xs n
+  map_listed f h xs n = ap (listed value) (nth-map f xs n) ∙ mapped_listed f h (nth xs n)
+
+  -- a new row whose list is empty
+  pub new_listed : (xs : List A) (x : A) (n : ℕ) → value x ≡ [] → listed_at value (xs ++ x ∷ []) n ≡ listed_at value xs n
+  new_listed xs x n none = go (same_or_not n (suc (length xs)))
+    where
+      nothing : (o : Option A) → ((y : A) → o ≡ Some y → ⊥) → [] ≡ listed value o
+      nothing None h = refl
+      nothing (Some y) h = absurd (h y refl)
+
+      go : (n ≡ suc (length xs)) ⊎ (n ≢ suc (length xs)) → listed_at value (xs ++ x ∷ []) n ≡ listed_at value xs n
+      go (inl d) = ap (listed_at value (xs ++ x ∷ [])) d ∙ ap (listed value) (nth-last xs x) ∙ none ∙ nothing (nth xs n) (λ y e. nth-past xs y (ap (nth xs) (sym d) ∙ e))
+      go (inr d) = ap (listed value) (nth-other xs x n d)
