@@ -35,3 +35,4 @@ pub mod OwnAnswers
 pub mod HeardTests
 pub mod RunEnds
 pub mod KnownHits
+pub mod Came

@@ -1,12 +1,13 @@
 -- What the tables say of queries is what the entries did.
 use Rattle.std.proofs.Common.{◌≡◌, ◌⊎◌, inl, inr, refl, sym, ◌∙◌, ap, ap₂, subst, Option, Some, None, List, [], ◌∷◌, ◌++◌, ℕ, zero, suc, Bool, true, false, cond, length, is_some, not, ◌&&◌, option_map, true≢false}
 use Rattle.std.proofs.lemmas.Option.{none-some, same_Some}
+use Rattle.da_hist.proofs.Came.{WasThere, AllCame, came_same, came_changed, came_longer}
 use Rattle.da_hist.proofs.Entries.{by_test, and_first, and_second, not_true}
 use Rattle.da_hist.proofs.EntryInduction.{IsUndecidedAt}
 use Rattle.da_hist.proofs.EntryParts.{HeardParts, MovedParts, an_entry_gives, recorded}
 use Rattle.da_hist.proofs.KeysLaw.{IsRecorded, told_is_recorded}
 use Rattle.da_hist.proofs.OpenQueries.{nowhere}
-use Rattle.da_hist.proofs.Rows.{of_changed, of_appended, nth-changed, passing, number_found, is_listed}
+use Rattle.da_hist.proofs.Rows.{nth-changed, passing, number_found, is_listed}
 use Rattle.da_hist.proofs.Standing.{rest_stands, what_is_settled_stands}
 use Rattle.da_base.specs.Words.{nth, changed_nth, passes_option, number_where}
 use Rattle.da_fields.specs.declared.answer.Answer.{Answer}
@@ -28,47 +29,6 @@ use Rattle.da_hist.specs.declared.state.Question.{Question}
 use Rattle.da_hist.specs.declared.state.Request.{Request}
 use Rattle.da_hist.specs.declared.state.State.{State}
 
--- ---- where a value of a row comes from
-
--- each value was there before, under the same question, or is new
-module _ {X : Type 0} (F : Asked → Option X) (New : ℕ → Asked → X → Type 0) (origin : List Asked) where
-  record WasThere (n : ℕ) (a : Asked) (x : X) : Type 0 where
-    pub row : Asked
-    pub stood : nth origin n ≡ Some row
-    pub had : F row ≡ Some x
-    pub question : a.question ≡ row.question
-
-  abbrev AllCame : List Asked → Type 0
-  AllCame qs = (n : ℕ) (a : Asked) (x : X) → nth qs n ≡ Some a → F a ≡ Some x → WasThere n a x ⊎ New n a x
-
-  came_same : AllCame origin
-  came_same n a x is e = inl (record { row = a; stood = is; had = e; question = refl })
-
-  -- a change that keeps the question, and gives no value but a new one
-  came_changed : (f : Asked → Asked) (qs : List Asked) (m : ℕ) → ((a : Asked) → (f a).question ≡ a.question) →
-      ((a : Asked) (x : X) → nth qs m ≡ Some a → F (f a) ≡ Some x → (F a ≡ Some x) ⊎ New m (f a) x) → ((n : ℕ) (a b : Asked) (x : X) → b.question ≡ a.question → New n a x → New n b x) →
-      AllCame qs → AllCame (changed_nth f qs m)
-  came_changed f qs m keeps h moves p n a x is e = go (of_changed f qs m n a is)
-    where
-      moved : (b : Asked) → a.question ≡ b.question → WasThere n b x ⊎ New n b x → WasThere n a x ⊎ New n a x
-      moved b q (inl w) = inl (record { row = w.row; stood = w.stood; had = w.had; question = q ∙ w.question })
-      moved b q (inr w) = inr (moves n b a x q w)
-
-      go : ((n ≡ m) × (b : Asked) × (nth qs m ≡ Some b) × (a ≡ f b)) ⊎ ((n ≡ m → ⊥) × (nth qs n ≡ Some a)) → WasThere n a x ⊎ New n a x
-      go (inr (d, at)) = p n a x at e
-      go (inl (d, b, at, w)) = which (h b x at (sym (ap F w) ∙ e))
-        where
-          which : (F b ≡ Some x) ⊎ New m (f b) x → WasThere n a x ⊎ New n a x
-          which (inl y) = moved b (ap (λ (z : Asked). z.question) w ∙ keeps b) (p n b x (ap (nth qs) d ∙ at) y)
-          which (inr y) = inr (subst (λ (z : Asked). New n z x) (sym w) (subst (λ (k : ℕ). New k (f b) x) (sym d) y))
-
-  came_longer : (qs : List Asked) (new : Asked) → F new ≡ None → AllCame qs → AllCame (qs ++ new ∷ [])
-  came_longer qs new none p n a x is e = go (of_appended qs new a n is)
-    where
-      go : ((n ≡ suc (length qs)) × (a ≡ new)) ⊎ (nth qs n ≡ Some a) → WasThere n a x ⊎ New n a x
-      go (inl (d, w)) = absurd (none-some x (sym none ∙ sym (ap F w) ∙ e))
-      go (inr at) = p n a x at e
-
 -- ---- what a Take handed out
 
 module _ (settings : Settings) (e : Entry) (origin : State) where
@@ -81,11 +41,21 @@ module _ (settings : Settings) (e : Entry) (origin : State) where
   abbrev NewlyAnswered : ℕ → Asked → Answer × ℕ → Type 0
   NewlyAnswered n a p = (given : Answer) × Tells e.input n given × (is_running_in before n ≡ true) × (recorded_answer a.question.kind given ≡ p.0) × (p.1 ≡ e.moment)
 
+  -- a query keeps its question
+  abbrev KeepsQuestion : Asked → Asked → Type 0
+  KeepsQuestion a b = a.question ≡ b.question
+
+  keeps : (a : Asked) → KeepsQuestion a a
+  keeps a = refl
+
+  keeps_on : (a b c : Asked) → KeepsQuestion a b → KeepsQuestion b c → KeepsQuestion a c
+  keeps_on a b c p q = p ∙ q
+
   abbrev TakenCame : List Asked → Type 0
-  TakenCame qs = AllCame (λ (a : Asked). a.taken) NewlyTaken origin.queries qs
+  TakenCame qs = AllCame (λ (a : Asked). a.taken) KeepsQuestion NewlyTaken origin.queries qs
 
   abbrev AnsweredCame : List Asked → Type 0
-  AnsweredCame qs = AllCame (λ (a : Asked). a.answer) NewlyAnswered origin.queries qs
+  AnsweredCame qs = AllCame (λ (a : Asked). a.answer) KeepsQuestion NewlyAnswered origin.queries qs
 
   record BothCame (qs : List Asked) : Type 0 where
     pub taken : TakenCame qs
@@ -101,30 +71,30 @@ module _ (settings : Settings) (e : Entry) (origin : State) where
   both_changed : (f : Asked → Asked) → ((a : Asked) → (f a).question ≡ a.question) → ((a : Asked) → (f a).taken ≡ a.taken) → ((a : Asked) → (f a).answer ≡ a.answer) →
       (qs : List Asked) (m : ℕ) → BothCame qs → BothCame (changed_nth f qs m)
   both_changed f q t w qs m p = record {
-    taken = came_changed (λ (a : Asked). a.taken) NewlyTaken origin.queries f qs m q (λ a x is d. inl (sym (t a) ∙ d)) taken_moves p.taken;
-    answered = came_changed (λ (a : Asked). a.answer) NewlyAnswered origin.queries f qs m q (λ a x is d. inl (sym (w a) ∙ d)) answered_moves p.answered;
+    taken = came_changed (λ (a : Asked). a.taken) KeepsQuestion NewlyTaken origin.queries keeps keeps_on taken_moves f qs m q (λ a x is d. inl (sym (t a) ∙ d)) p.taken;
+    answered = came_changed (λ (a : Asked). a.answer) KeepsQuestion NewlyAnswered origin.queries keeps keeps_on answered_moves f qs m q (λ a x is d. inl (sym (w a) ∙ d)) p.answered;
   }
 
   both_taken : e.input ≡ Take → BothCame before.queries → BothCame (changed_nth (taken e.moment) before.queries (first_waiting before))
   both_taken l p = record {
-    taken = came_changed (λ (a : Asked). a.taken) NewlyTaken origin.queries (taken e.moment) before.queries (first_waiting before) (λ a. refl)
-        (λ a x is d. inr (l, refl, sym (same_Some e.moment x d))) taken_moves p.taken;
-    answered = came_changed (λ (a : Asked). a.answer) NewlyAnswered origin.queries (taken e.moment) before.queries (first_waiting before) (λ a. refl) (λ a x is d. inl d) answered_moves p.answered;
+    taken = came_changed (λ (a : Asked). a.taken) KeepsQuestion NewlyTaken origin.queries keeps keeps_on taken_moves (taken e.moment) before.queries (first_waiting before) (λ a. refl)
+        (λ a x is d. inr (l, refl, sym (same_Some e.moment x d))) p.taken;
+    answered = came_changed (λ (a : Asked). a.answer) KeepsQuestion NewlyAnswered origin.queries keeps keeps_on answered_moves (taken e.moment) before.queries (first_waiting before) (λ a. refl) (λ a x is d. inl d) p.answered;
   }
 
   both_answered : (query : ℕ) (given : Answer) (a : Asked) → Tells e.input query given → nth before.queries query ≡ Some a → is_running a ≡ true → BothCame before.queries →
       BothCame (changed_nth (answered_by settings e.moment (nth before.requests a.request) (recorded_answer a.question.kind given)) before.queries query)
   both_answered query given a g is run p = record {
-    taken = came_changed (λ (x : Asked). x.taken) NewlyTaken origin.queries (answered_by settings e.moment (nth before.requests a.request) (recorded_answer a.question.kind given)) before.queries query (λ x. refl) (λ x m at d. inl d) taken_moves p.taken;
-    answered = came_changed (λ (x : Asked). x.answer) NewlyAnswered origin.queries (answered_by settings e.moment (nth before.requests a.request) (recorded_answer a.question.kind given)) before.queries query (λ x. refl)
+    taken = came_changed (λ (x : Asked). x.taken) KeepsQuestion NewlyTaken origin.queries keeps keeps_on taken_moves (answered_by settings e.moment (nth before.requests a.request) (recorded_answer a.question.kind given)) before.queries query (λ x. refl) (λ x m at d. inl d) p.taken;
+    answered = came_changed (λ (x : Asked). x.answer) KeepsQuestion NewlyAnswered origin.queries keeps keeps_on answered_moves (answered_by settings e.moment (nth before.requests a.request) (recorded_answer a.question.kind given)) before.queries query (λ x. refl)
         (λ x y at d. inr (given, g, ap (passes_option is_running) is ∙ run,
         ap (λ (z : Asked). recorded_answer z.question.kind given) (same_Some x a (sym at ∙ is)) ∙ ap (λ (z : Answer × ℕ). z.0) (same_Some _ y d),
-        sym (ap (λ (z : Answer × ℕ). z.1) (same_Some _ y d)))) answered_moves p.answered;
+        sym (ap (λ (z : Answer × ℕ). z.1) (same_Some _ y d)))) p.answered;
   }
   both_longer : (qs : List Asked) (new : Asked) → new.taken ≡ None → new.answer ≡ None → BothCame qs → BothCame (qs ++ new ∷ [])
   both_longer qs new t w p = record {
-    taken = came_longer (λ (a : Asked). a.taken) NewlyTaken origin.queries qs new t p.taken;
-    answered = came_longer (λ (a : Asked). a.answer) NewlyAnswered origin.queries qs new w p.answered;
+    taken = came_longer (λ (a : Asked). a.taken) KeepsQuestion NewlyTaken origin.queries keeps keeps_on taken_moves qs new t p.taken;
+    answered = came_longer (λ (a : Asked). a.answer) KeepsQuestion NewlyAnswered origin.queries keeps keeps_on answered_moves qs new w p.answered;
   }
 
   abbrev came_now : State → Option ℕ → List ℕ → Type 0
@@ -163,7 +133,7 @@ module _ (settings : Settings) (e : Entry) (origin : State) where
 
   start_came : BothCame before.queries
   unfolding with_due_replied
-  start_came = record { taken = came_same (λ (a : Asked). a.taken) NewlyTaken origin.queries; answered = came_same (λ (a : Asked). a.answer) NewlyAnswered origin.queries }
+  start_came = record { taken = came_same (λ (a : Asked). a.taken) KeepsQuestion NewlyTaken origin.queries keeps keeps_on taken_moves; answered = came_same (λ (a : Asked). a.answer) KeepsQuestion NewlyAnswered origin.queries keeps keeps_on answered_moves }
 
   entry_came : BothCame (after settings origin e).queries
   entry_came = an_entry_gives settings origin e came_now came_after heard_came moved_came start_came
@@ -188,7 +158,7 @@ module _ (settings : Settings) where
   taken_by (e ∷ g) n m a is t = go (taken_by g n m) ((entry_came settings e (state settings g)).taken n a m is t)
     where
       go : ((b : Asked) → nth (state settings g).queries n ≡ Some b → b.taken ≡ Some m → WasTaken settings g n m) →
-          WasThere (λ (a : Asked). a.taken) (NewlyTaken settings e (state settings g)) (state settings g).queries n a m ⊎ NewlyTaken settings e (state settings g) n a m → WasTaken settings (e ∷ g) n m
+          WasThere (λ (a : Asked). a.taken) (KeepsQuestion settings e (state settings g)) (NewlyTaken settings e (state settings g)) (state settings g).queries n a m ⊎ NewlyTaken settings e (state settings g) n a m → WasTaken settings (e ∷ g) n m
       go earlier (inl w) =
           let old : WasTaken settings g n m = earlier w.row w.stood w.had in
           record { entry = old.entry; older = old.older; among = later_among e g old.entry old.older old.among; is_take = old.is_take; at_moment = old.at_moment; hands_out = old.hands_out }
@@ -206,7 +176,7 @@ module _ (settings : Settings) where
   answered_by_entry (e ∷ g) n a answer m is t = go (λ b. answered_by_entry g n b answer m) ((entry_came settings e (state settings g)).answered n a (answer, m) is t)
     where
       go : ((b : Asked) → nth (state settings g).queries n ≡ Some b → b.answer ≡ Some (answer, m) → WasAnswered settings g n b answer m) →
-          WasThere (λ (a : Asked). a.answer) (NewlyAnswered settings e (state settings g)) (state settings g).queries n a (answer, m) ⊎ NewlyAnswered settings e (state settings g) n a (answer, m) → WasAnswered settings (e ∷ g) n a answer m
+          WasThere (λ (a : Asked). a.answer) (KeepsQuestion settings e (state settings g)) (NewlyAnswered settings e (state settings g)) (state settings g).queries n a (answer, m) ⊎ NewlyAnswered settings e (state settings g) n a (answer, m) → WasAnswered settings (e ∷ g) n a answer m
       go earlier (inl w) =
           let old : WasAnswered settings g n w.row answer m = earlier w.row w.stood w.had in
           record {
@@ -217,7 +187,7 @@ module _ (settings : Settings) where
             given = old.given;
             tells = old.tells;
             is_running = old.is_running;
-            is_recorded = ap (λ x. recorded_answer x.kind old.given) w.question ∙ old.is_recorded;
+            is_recorded = ap (λ x. recorded_answer x.kind old.given) w.same ∙ old.is_recorded;
           }
       go earlier (inr (given, w, r, k, d)) = record {
         entry = e;

@@ -1,12 +1,12 @@
 -- When a request was decided and replied is what the entries did.
 use Rattle.std.proofs.Common.{◌≡◌, ◌⊎◌, inl, inr, refl, sym, ◌∙◌, ap, ap₂, subst, Option, Some, None, List, [], ◌∷◌, ◌++◌, ℕ, zero, suc, Bool, true, false, map, length, is_some, not, ◌&&◌, true≢false}
 use Rattle.std.proofs.lemmas.Option.{none-some, same_Some}
+use Rattle.da_hist.proofs.Came.{WasThere, AllCame, came_same, came_changed, came_mapped, came_longer}
 use Rattle.da_hist.proofs.Entries.{by_test, and_first, and_second, not_true}
 use Rattle.da_hist.proofs.EntryParts.{HeardParts, MovedParts, an_entry_gives}
 use Rattle.da_hist.proofs.Noted.{history_noted}
 use Rattle.da_hist.proofs.OpenQueries.{nowhere, none_there}
 use Rattle.da_hist.proofs.QueryReadings.{later_among}
-use Rattle.da_hist.proofs.Rows.{of_changed, of_appended, of_mapped}
 use Rattle.da_hist.proofs.Standing.{heard_stands, moved_stands, due_stand, undecided_is}
 use Rattle.da_base.specs.Words.{nth, changed_nth, passes_option}
 use Rattle.da_fields.specs.declared.answer.Answer.{Answer}
@@ -23,51 +23,6 @@ use Rattle.da_hist.specs.declared.settings.Settings.{Settings}
 use Rattle.da_hist.specs.declared.state.Request.{Request}
 use Rattle.da_hist.specs.declared.state.State.{State}
 
--- ---- where a moment comes from
-
-module _ (F : Request → Option ℕ) (New : ℕ → ℕ → Type 0) (origin : List Request) where
-  record WasThere (n x : ℕ) : Type 0 where
-    pub row : Request
-    pub stood : nth origin n ≡ Some row
-    pub had : F row ≡ Some x
-
-  abbrev AllCame : List Request → Type 0
-  AllCame rs = (n : ℕ) (r : Request) (x : ℕ) → nth rs n ≡ Some r → F r ≡ Some x → WasThere n x ⊎ New n x
-
-  came_changed : (f : Request → Request) (rs : List Request) (m : ℕ) → ((r : Request) (x : ℕ) → nth rs m ≡ Some r → F (f r) ≡ Some x → (F r ≡ Some x) ⊎ New m x) → AllCame rs → AllCame (changed_nth f rs m)
-  came_changed f rs m h p n r x is e = go (of_changed f rs m n r is)
-    where
-      go : ((n ≡ m) × (s : Request) × (nth rs m ≡ Some s) × (r ≡ f s)) ⊎ ((n ≡ m → ⊥) × (nth rs n ≡ Some r)) → WasThere n x ⊎ New n x
-      go (inr (d, at)) = p n r x at e
-      go (inl (d, s, at, w)) = which (h s x at (sym (ap F w) ∙ e))
-        where
-          which : (F s ≡ Some x) ⊎ New m x → WasThere n x ⊎ New n x
-          which (inl y) = p n s x (ap (nth rs) d ∙ at) y
-          which (inr y) = inr (subst (λ (k : ℕ). New k x) (sym d) y)
-
-  came_longer : (rs : List Request) (new : Request) → F new ≡ None → AllCame rs → AllCame (rs ++ new ∷ [])
-  came_longer rs new none p n r x is e = go (of_appended rs new r n is)
-    where
-      go : ((n ≡ suc (length rs)) × (r ≡ new)) ⊎ (nth rs n ≡ Some r) → WasThere n x ⊎ New n x
-      go (inl (d, w)) = absurd (none-some x (sym none ∙ sym (ap F w) ∙ e))
-      go (inr at) = p n r x at e
-
-  came_mapped : (f : Request → Request) → ((n : ℕ) (r : Request) (x : ℕ) → nth origin n ≡ Some r → F (f r) ≡ Some x → (F r ≡ Some x) ⊎ New n x) → AllCame (map f origin)
-  came_mapped f h n r x is e = go (of_mapped f origin n r is)
-    where
-      go : (s : Request) × (nth origin n ≡ Some s) × (r ≡ f s) → WasThere n x ⊎ New n x
-      go (s, at, w) = which (h n s x at (sym (ap F w) ∙ e))
-        where
-          which : (F s ≡ Some x) ⊎ New n x → WasThere n x ⊎ New n x
-          which (inl y) = inl (record { row = s; stood = at; had = y })
-          which (inr y) = inr y
-
-  came_through : (f : Request → Request) → ((r : Request) → F (f r) ≡ F r) → (rs : List Request) → AllCame rs → AllCame (map f rs)
-  came_through f h rs p n r x is e = go (of_mapped f rs n r is)
-    where
-      go : (s : Request) × (nth rs n ≡ Some s) × (r ≡ f s) → WasThere n x ⊎ New n x
-      go (s, at, w) = p n s x at (sym (h s) ∙ sym (ap F w) ∙ e)
-
 -- ---- one entry
 
 none_if : (o : Option ℕ) → ((k : ℕ) → o ≡ Some k → ⊥) → o ≡ None
@@ -79,15 +34,31 @@ module _ (settings : Settings) (e : Entry) (origin : State) where
   before = with_due_replied settings e.moment origin
 
   -- decided by this entry, which found it undecided
-  abbrev NewlyDecided : ℕ → ℕ → Type 0
-  NewlyDecided n m = (m ≡ e.moment) × ((s : Request) → nth origin.requests n ≡ Some s → (s.decided ≡ None) × (s.is_cancelled ≡ false))
+  abbrev NewlyDecided : ℕ → Request → ℕ → Type 0
+  NewlyDecided n r m = (m ≡ e.moment) × ((s : Request) → nth origin.requests n ≡ Some s → (s.decided ≡ None) × (s.is_cancelled ≡ false))
 
-  abbrev NewlyReplied : ℕ → ℕ → Type 0
-  NewlyReplied n m = (m ≡ e.moment) × ((s : Request) → nth origin.requests n ≡ Some s → (s.replied ≡ None) × (s.is_cancelled ≡ false))
+  abbrev NewlyReplied : ℕ → Request → ℕ → Type 0
+  NewlyReplied n r m = (m ≡ e.moment) × ((s : Request) → nth origin.requests n ≡ Some s → (s.replied ≡ None) × (s.is_cancelled ≡ false))
+
+  -- nothing of the row is asked to stay
+  abbrev AnyRow : Request → Request → Type 0
+  AnyRow r s = Unit {0}
+
+  any : (r : Request) → AnyRow r r
+  any r = tt
+
+  any_on : (a b c : Request) → AnyRow a b → AnyRow b c → AnyRow a c
+  any_on a b c p q = tt
+
+  decided_moves : (n : ℕ) (a b : Request) (m : ℕ) → AnyRow b a → NewlyDecided n a m → NewlyDecided n b m
+  decided_moves n a b m q w = w
+
+  replied_moves : (n : ℕ) (a b : Request) (m : ℕ) → AnyRow b a → NewlyReplied n a m → NewlyReplied n b m
+  replied_moves n a b m q w = w
 
   record BothCame (rs : List Request) : Type 0 where
-    pub decided : AllCame (λ (r : Request). r.decided) NewlyDecided origin.requests rs
-    pub replied : AllCame (λ (r : Request). r.replied) NewlyReplied origin.requests rs
+    pub decided : AllCame (λ (r : Request). r.decided) AnyRow NewlyDecided origin.requests rs
+    pub replied : AllCame (λ (r : Request). r.replied) AnyRow NewlyReplied origin.requests rs
 
   -- a change that touches neither
   record Touches (r s : Request) : Type 0 where
@@ -96,14 +67,14 @@ module _ (settings : Settings) (e : Entry) (origin : State) where
 
   both_changed : (f : Request → Request) → ((r : Request) → Touches r (f r)) → (rs : List Request) (m : ℕ) → BothCame rs → BothCame (changed_nth f rs m)
   both_changed f h rs m p = record {
-    decided = came_changed (λ (r : Request). r.decided) NewlyDecided origin.requests f rs m (λ r x is d. inl (sym (h r).decided ∙ d)) p.decided;
-    replied = came_changed (λ (r : Request). r.replied) NewlyReplied origin.requests f rs m (λ r x is d. inl (sym (h r).replied ∙ d)) p.replied;
+    decided = came_changed (λ (r : Request). r.decided) AnyRow NewlyDecided origin.requests any any_on decided_moves f rs m (λ r. tt) (λ r x is d. inl (sym (h r).decided ∙ d)) p.decided;
+    replied = came_changed (λ (r : Request). r.replied) AnyRow NewlyReplied origin.requests any any_on replied_moves f rs m (λ r. tt) (λ r x is d. inl (sym (h r).replied ∙ d)) p.replied;
   }
 
   both_longer : (rs : List Request) (new : Request) → new.decided ≡ None → new.replied ≡ None → BothCame rs → BothCame (rs ++ new ∷ [])
   both_longer rs new d w p = record {
-    decided = came_longer (λ (r : Request). r.decided) NewlyDecided origin.requests rs new d p.decided;
-    replied = came_longer (λ (r : Request). r.replied) NewlyReplied origin.requests rs new w p.replied;
+    decided = came_longer (λ (r : Request). r.decided) AnyRow NewlyDecided origin.requests any any_on decided_moves rs new d p.decided;
+    replied = came_longer (λ (r : Request). r.replied) AnyRow NewlyReplied origin.requests any any_on replied_moves rs new w p.replied;
   }
 
   late_touches : (db : ℕ) (answer : Answer) (r : Request) → Touches r (with_late_answer db answer r)
@@ -115,8 +86,8 @@ module _ (settings : Settings) (e : Entry) (origin : State) where
   end_came : (conn : ℕ) → BothCame before.requests → BothCame (with_end conn before).requests
   unfolding with_end
   end_came conn p = record {
-    decided = came_through (λ (r : Request). r.decided) NewlyDecided origin.requests (cancelled_of conn) (λ r. (cancelled_of_touches conn r).decided) before.requests p.decided;
-    replied = came_through (λ (r : Request). r.replied) NewlyReplied origin.requests (cancelled_of conn) (λ r. (cancelled_of_touches conn r).replied) before.requests p.replied;
+    decided = came_mapped (λ (r : Request). r.decided) AnyRow NewlyDecided origin.requests any any_on decided_moves (cancelled_of conn) before.requests (λ r. tt) (λ n r x is d. inl (sym (cancelled_of_touches conn r).decided ∙ d)) p.decided;
+    replied = came_mapped (λ (r : Request). r.replied) AnyRow NewlyReplied origin.requests any any_on replied_moves (cancelled_of conn) before.requests (λ r. tt) (λ n r x is d. inl (sym (cancelled_of_touches conn r).replied ∙ d)) p.replied;
   }
 
   record CameNow (st : State) : Type 0 where
@@ -166,24 +137,24 @@ module _ (settings : Settings) (e : Entry) (origin : State) where
         go true d = absurd (true≢false (sym ((row_stands s at).cancelled d) ∙ uncancelled))
         go false d = refl
 
-    newly_decided : (m : ℕ) → m ≡ e.moment → NewlyDecided n m
+    newly_decided : (m : ℕ) → m ≡ e.moment → NewlyDecided n r m
     newly_decided m d = (d, λ s at. (none_if s.decided (λ k x. none-some k (sym (none_there r.decided (undecided_is r u).0) ∙ (row_stands s at).decided k x)), not_cancelled s at))
 
-    newly_replied : (m : ℕ) → m ≡ e.moment → NewlyReplied n m
+    newly_replied : (m : ℕ) → m ≡ e.moment → NewlyReplied n r m
     newly_replied m d = (d, λ s at. (none_if s.replied (λ k x. none-some k (sym (none_there r.replied (undecided_is r u).1) ∙ (row_stands s at).replied k x)), not_cancelled s at))
 
     decision_came : BothCame (changed_nth (with_decision settings e.moment) st.requests n)
     decision_came = record {
-      decided = came_changed (λ (x : Request). x.decided) NewlyDecided origin.requests (with_decision settings e.moment) st.requests n
+      decided = came_changed (λ (x : Request). x.decided) AnyRow NewlyDecided origin.requests any any_on decided_moves (with_decision settings e.moment) st.requests n (λ r. tt)
           (λ s x at d. inr (newly_decided x (same_Some x e.moment (sym d ∙ noted s)))) p.came.decided;
-      replied = came_changed (λ (x : Request). x.replied) NewlyReplied origin.requests (with_decision settings e.moment) st.requests n (λ s x at d. told s x d) p.came.replied;
+      replied = came_changed (λ (x : Request). x.replied) AnyRow NewlyReplied origin.requests any any_on replied_moves (with_decision settings e.moment) st.requests n (λ r. tt) (λ s x at d. told s x d) p.came.replied;
     }
       where
         noted : (s : Request) → (with_decision settings e.moment s).decided ≡ Some e.moment
         noted s = by_test (λ (x : Request). x.decided ≡ Some e.moment) (is_due settings e.moment (record s { decided = Some e.moment })) _ _ (λ x. refl) (λ x. refl)
 
-        told : (s : Request) (x : ℕ) → (with_decision settings e.moment s).replied ≡ Some x → (s.replied ≡ Some x) ⊎ NewlyReplied n x
-        told s x = by_test (λ (y : Request). y.replied ≡ Some x → (s.replied ≡ Some x) ⊎ NewlyReplied n x) (is_due settings e.moment (record s { decided = Some e.moment }))
+        told : (s : Request) (x : ℕ) → (with_decision settings e.moment s).replied ≡ Some x → (s.replied ≡ Some x) ⊎ NewlyReplied n r x
+        told s x = by_test (λ (y : Request). y.replied ≡ Some x → (s.replied ≡ Some x) ⊎ NewlyReplied n r x) (is_due settings e.moment (record s { decided = Some e.moment }))
             (record s { decided = Some e.moment; replied = Some e.moment }) (record s { decided = Some e.moment })
             (λ y d. inr (newly_replied x (sym (same_Some e.moment x d)))) (λ y d. inl d)
 
@@ -201,13 +172,13 @@ module _ (settings : Settings) (e : Entry) (origin : State) where
   due_came : BothCame before.requests
   unfolding with_due_replied is_due
   due_came = record {
-    decided = came_mapped (λ (r : Request). r.decided) NewlyDecided origin.requests (replied_if_due settings e.moment)
-        (λ n r x is d. inl (by_test (λ (y : Request). y.decided ≡ Some x → r.decided ≡ Some x) (is_due settings e.moment r) (record r { replied = Some e.moment }) r (λ y z. z) (λ y z. z) d));
-    replied = came_mapped (λ (r : Request). r.replied) NewlyReplied origin.requests (replied_if_due settings e.moment) told;
+    decided = came_mapped (λ (r : Request). r.decided) AnyRow NewlyDecided origin.requests any any_on decided_moves (replied_if_due settings e.moment) origin.requests (λ r. tt)
+        (λ n r x is d. inl (by_test (λ (y : Request). y.decided ≡ Some x → r.decided ≡ Some x) (is_due settings e.moment r) (record r { replied = Some e.moment }) r (λ y z. z) (λ y z. z) d)) (came_same (λ (r : Request). r.decided) AnyRow NewlyDecided origin.requests any any_on decided_moves);
+    replied = came_mapped (λ (r : Request). r.replied) AnyRow NewlyReplied origin.requests any any_on replied_moves (replied_if_due settings e.moment) origin.requests (λ r. tt) told (came_same (λ (r : Request). r.replied) AnyRow NewlyReplied origin.requests any any_on replied_moves);
   }
     where
-      told : (n : ℕ) (r : Request) (x : ℕ) → nth origin.requests n ≡ Some r → (replied_if_due settings e.moment r).replied ≡ Some x → (r.replied ≡ Some x) ⊎ NewlyReplied n x
-      told n r x is = by_test (λ (y : Request). y.replied ≡ Some x → (r.replied ≡ Some x) ⊎ NewlyReplied n x) (is_due settings e.moment r) (record r { replied = Some e.moment }) r
+      told : (n : ℕ) (r : Request) (x : ℕ) → nth origin.requests n ≡ Some r → (replied_if_due settings e.moment r).replied ≡ Some x → (r.replied ≡ Some x) ⊎ NewlyReplied n r x
+      told n r x is = by_test (λ (y : Request). y.replied ≡ Some x → (r.replied ≡ Some x) ⊎ NewlyReplied n r x) (is_due settings e.moment r) (record r { replied = Some e.moment }) r
           (λ due d. inr (sym (same_Some e.moment x d), λ s at. held due s (same_Some s r (sym at ∙ is))))
           (λ y d. inl d)
         where
@@ -235,7 +206,7 @@ module _ (settings : Settings) where
   decided_by (e ∷ g) n m r is d = go (decided_by g n m) ((entry_came settings e (state settings g)).decided n r m is d)
     where
       go : ((s : Request) → nth (state settings g).requests n ≡ Some s → s.decided ≡ Some m → WasDecided settings g n m) →
-          WasThere (λ (r : Request). r.decided) (NewlyDecided settings e (state settings g)) (state settings g).requests n m ⊎ NewlyDecided settings e (state settings g) n m → WasDecided settings (e ∷ g) n m
+          WasThere (λ (r : Request). r.decided) (AnyRow settings e (state settings g)) (NewlyDecided settings e (state settings g)) (state settings g).requests n r m ⊎ NewlyDecided settings e (state settings g) n r m → WasDecided settings (e ∷ g) n m
       go earlier (inl w) =
           let old : WasDecided settings g n m = earlier w.row w.stood w.had in
           record {
@@ -264,7 +235,7 @@ module _ (settings : Settings) where
   replied_by (e ∷ g) n m r is d = go (replied_by g n m) ((entry_came settings e (state settings g)).replied n r m is d)
     where
       go : ((s : Request) → nth (state settings g).requests n ≡ Some s → s.replied ≡ Some m → WasReplied settings g n m) →
-          WasThere (λ (r : Request). r.replied) (NewlyReplied settings e (state settings g)) (state settings g).requests n m ⊎ NewlyReplied settings e (state settings g) n m → WasReplied settings (e ∷ g) n m
+          WasThere (λ (r : Request). r.replied) (AnyRow settings e (state settings g)) (NewlyReplied settings e (state settings g)) (state settings g).requests n r m ⊎ NewlyReplied settings e (state settings g) n r m → WasReplied settings (e ∷ g) n m
       go earlier (inl w) =
           let old : WasReplied settings g n m = earlier w.row w.stood w.had in
           record { entry = old.entry; older = old.older; among = later_among e g old.entry old.older old.among; at_moment = old.at_moment; not_before = old.not_before }
