@@ -6,4 +6,4 @@ mod answers;
 mod templates;
 
 pub use answers::{answer_fields, answer_from, rule_for};
-pub use templates::{expand_fields, merge_expanded};
+pub use templates::{are_templates, expand_fields, merge_expanded};

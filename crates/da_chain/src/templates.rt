@@ -6,8 +6,26 @@ ghost use Rattle.da_fields.specs.FieldList as words;
 ghost use Rattle.da_names.specs.Templates as templates;
 
 use da_fields::{Fields, Text, merge};
-use da_names::{Vars, expand};
+use da_names::{Vars, expand, template_ok};
 use std::alloc::{AllocError, Global};
+
+fn is_template_field(key: &Text, template: &Text) -> bool
+    ensures { result ≡ templates.is_template_field (key.now, template.now) }
+{
+    !key.bytes().is_empty() && template_ok(template.bytes())
+}
+
+/// Whether each field has a key that isn't empty, and a template as its value. It takes no memory.
+pub fn are_templates(fields: &Fields) -> bool
+    ensures { result ≡ list_all templates.is_template_field fields.now }
+{
+    for (key, template) in fields.pairs() {
+        if !is_template_field(key, template) {
+            return false;
+        }
+    }
+    true
+}
 
 /// The fields with each value, a template, replaced by what it stands for.
 pub fn expand_fields(alloc: Global, fields: &Fields, vars: &Vars) -> Result<Fields, AllocError>

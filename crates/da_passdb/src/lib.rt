@@ -16,5 +16,5 @@ mod walk;
 pub use chain::{Chain, Verdict, VerdictKind};
 pub use cursor::{Cursor, next};
 pub use da_fields::Rule;
-pub use database::{Driver, Passdb, Skip};
+pub use database::{Driver, Passdb, Skip, are_valid_passdbs};
 pub use login::{Login, Proof};

@@ -1,7 +1,9 @@
 // User databases, and what a chain of them comes to.
 
 ghost use Rattle.std.specs.Prelude.{◌≡◌, IfOk};
+ghost use Rattle.da_userdb.specs.UserChain as words;
 
+use da_chain::are_templates;
 use da_fields::{Fields, Rule, Text};
 use da_names::Vars;
 use std::alloc::{AllocError, Global};
@@ -43,7 +45,27 @@ pub struct Userdb {
     pub override_fields: Fields,
 }
 
+/// Whether the databases are numbered 1, 2 and so on in order, and the default and override fields of each have keys that
+/// aren't empty and templates as values. It takes no memory.
+pub fn are_valid_userdbs(dbs: &[Userdb]) -> bool
+    ensures { result ≡ words.are_valid_userdbs dbs.now }
+{
+    for (index, db) in dbs.iter().enumerate() {
+        if db.number as usize != index + 1 || !db.is_valid() {
+            return false;
+        }
+    }
+    true
+}
+
 impl Userdb {
+    // Whether its default and override fields have keys, and templates as values.
+    fn is_valid(&self) -> bool
+        ensures { result ≡ words.is_valid_userdb self.now }
+    {
+        are_templates(&self.default_fields) && are_templates(&self.override_fields)
+    }
+
     /// An equal database.
     pub fn copy(&self, alloc: Global) -> Result<Userdb, AllocError>
         ensures { IfOk result (λ db. db ≡ self.now) }

@@ -11,4 +11,4 @@ mod walk;
 
 pub use cursor::{UserCursor, user_next};
 pub use da_fields::Rule as UserRule;
-pub use database::{Lookup, UserChain, UserDriver, UserSkip, Userdb};
+pub use database::{Lookup, UserChain, UserDriver, UserSkip, Userdb, are_valid_userdbs};
