@@ -2,3 +2,4 @@ pub mod EventLemmas
 pub mod Running
 pub mod Complete
 pub mod DriveLemmas
+pub mod PwLemmas

@@ -8,3 +8,6 @@ pub mod Fill
 pub mod Play
 pub mod Drive
 pub mod Statuses
+pub mod Commands
+pub mod Gather
+pub mod Pw

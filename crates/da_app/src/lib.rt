@@ -1,21 +1,29 @@
 //! The commands of the program, over anything that they may read from and write to. `run_drive` plays a script of events
 //! and writes the server's replies; its contract says what it read, what it wrote and what caused its end, for every
-//! status (`specs/Drive.antt`).
+//! status (`specs/Drive.antt`). `run_pw` makes the stored form of a password (`specs/Pw.antt`).
 #![tactic(auto)]
 
+mod commands;
 mod drive;
 mod events;
 mod fill;
+mod gather;
 mod output;
 mod play;
 mod print;
+mod pw;
 mod settings;
 mod status;
 mod words;
 
+pub use commands::Command;
 pub use drive::run_drive;
+pub use pw::run_pw;
 pub use settings::{Fault, FaultKind};
 pub use status::Status;
+pub use words::command;
 
+#[cfg(test)]
+mod pw_tests;
 #[cfg(test)]
 mod tests;

@@ -40,7 +40,7 @@ struct Run<'a> {
     write_fails: u64,
 }
 
-fn words_of(alloc: Global, list: &[&str]) -> Result<Vec<String>, AllocError> {
+pub(crate) fn words_of(alloc: Global, list: &[&str]) -> Result<Vec<String>, AllocError> {
     let mut words = Vec::new(alloc);
     for word in list {
         words.push(String::from_str(alloc, word)?)?;

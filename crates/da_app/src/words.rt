@@ -2,6 +2,19 @@
 
 ghost use Rattle.std.specs.Prelude.{◌≡◌, map, option_copied, string_bytes};
 ghost use Rattle.da_app.specs.Words.{is_value, path_of, drive_path};
+ghost use Rattle.da_app.specs.Commands.{command_of};
+
+use crate::commands::Command;
+
+/// The command that the first word names. `None` exactly where there is none of that name.
+pub fn command(words: &[String]) -> Option<Command>
+    ensures { result ≡ command_of (map string_bytes words.now) }
+{
+    match words {
+        [] => None,
+        [name, ..] => Command::named(name.as_bytes()),
+    }
+}
 
 fn may_be_value(word: &[u8]) -> bool
     ensures { result ≡ is_value word.now }

@@ -3,9 +3,11 @@
 #![tactic(auto)]
 
 mod adapters;
+mod random;
 
 use adapters::{Disk, Input, Output};
-use da_app::{Status, run_drive};
+use da_app::{Command, Status, command, run_drive, run_pw};
+use random::Random;
 use std::alloc::{AllocError, Global};
 use std::env;
 use std::io::{self, Write};
@@ -39,16 +41,37 @@ fn tell<W: Write>(alloc: Global, to: &mut W, status: &Status) {
     let _ = told;
 }
 
-fn main(rt: HostRuntime) -> ExitCode {
-    let Ok(words) = words(&rt) else {
-        let _ = complain(&mut rt.stderr(), b"cannot start");
-        return ExitCode::from(CANNOT_START);
-    };
+/// Makes the call of the command that the words name. An error where the random source can't be had.
+fn run(rt: &HostRuntime, words: &[String]) -> io::Result<Status> {
     let alloc = rt.alloc();
-    let mut files = Disk::new(&rt);
     let mut input = Input::new(rt.stdin());
     let mut output = Output::new(rt.stdout().as_raw_fd());
-    let status = run_drive(alloc, &words, &mut files, &mut input, &mut output);
-    tell(alloc, &mut rt.stderr(), &status);
-    ExitCode::from(status.code())
+    match command(words) {
+        Some(Command::Pw) => {
+            let mut rand = Random::new(rt)?;
+            Ok(run_pw(alloc, words, &mut input, &mut output, &mut rand))
+        }
+        Some(Command::Drive) | None => {
+            let mut files = Disk::new(rt);
+            Ok(run_drive(alloc, words, &mut files, &mut input, &mut output))
+        }
+    }
+}
+
+/// Runs the command, and tells its status.
+fn start(rt: &HostRuntime) -> io::Result<Status> {
+    let words = words(rt)?;
+    let status = run(rt, &words)?;
+    tell(rt.alloc(), &mut rt.stderr(), &status);
+    Ok(status)
+}
+
+fn main(rt: HostRuntime) -> ExitCode {
+    match start(&rt) {
+        Ok(status) => ExitCode::from(status.code()),
+        Err(_) => {
+            let _ = complain(&mut rt.stderr(), b"cannot start");
+            ExitCode::from(CANNOT_START)
+        }
+    }
 }
