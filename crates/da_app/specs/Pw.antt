@@ -2,13 +2,14 @@
 use Rattle.std.specs.Prelude.{◌≡◌, ◌<◌, ⊤, ℕ, ◌⊎◌, Bool, true, ◌&&◌, not, List, [], ◌∷◌, ◌++◌, length, Option, Some, None, if◌then◌else◌, ◌==◌, nat_le, bytes_eq, codes}
 use Rattle.std.specs.List.{list_all}
 use Rattle.std.specs.Io.KnownBytes.{Consumes, Appends, Keeps, IsAtEnd}
+use Rattle.base64.specs.GeneralPurpose.{IsBytes}
 use Rattle.da_base.specs.Words.{Bytes}
 use Rattle.da_tabline.specs.Parts.{Lacks}
 use Rattle.da_outside.specs.Causes.{Rose}
 use Rattle.da_outside.specs.Rand.{Draws}
 use Rattle.da_schemes.specs.declared.scheme.Scheme.{Scheme}
 use Rattle.da_schemes.specs.Scheme.{scheme_named}
-use Rattle.da_schemes.specs.Made.{made}
+use Rattle.da_schemes.specs.Made.{made, IsMade}
 use Rattle.da_app.specs.declared.status.Status.{Status}
 use Rattle.da_app.specs.declared.status.Status.TheVariants.{Done, Usage, BadInput, NoMemory, ReadFault, WriteFault}
 use Rattle.da_app.specs.Output.{WrittenFront}
@@ -66,7 +67,7 @@ pub record IsOff (left_before left_now : Option Bytes) : Type 0 where
   pub reads : Consumes left_before left_now read
   pub off : (513 < length read) ⊎ (IsAtEnd left_now × IsNoPasswordLine read)
 
--- the whole input was read and is the line of this password, and this salt was drawn for it
+-- the whole input was read and is the line of this password, and this salt of sixteen bytes was drawn for it
 pub record Hears (before now : PwOutside) : Type 0 where
   pub input : Bytes
   pub plain : Bytes
@@ -75,16 +76,20 @@ pub record Hears (before now : PwOutside) : Type 0 where
   pub ends : IsAtEnd now.left
   pub is_line : IsPasswordLine input plain
   pub draws : Draws before.draws now.draws salt
+  pub sixteen : length salt ≡ 16
+  pub bytes : IsBytes salt
 
 -- the text that stores the password under the scheme over the salt, and LF
 abbrev pub stored_line : Scheme → Bytes → Bytes → Bytes
 stored_line scheme plain salt = made scheme plain salt ++ 10 ∷ []
 
+-- that line was written, and its text is read as a password of the scheme, whatever the default scheme, and matches
 pub record Stores (scheme : Scheme) (before now : PwOutside) : Type 0 where
   pub heard : Hears before now
   pub writes : Appends before.contents now.contents (stored_line scheme heard.plain heard.salt)
+  pub right : (default : Scheme) → IsMade default scheme heard.plain (made scheme heard.plain heard.salt)
 
--- a front of that was written before a fault
+-- a front of that line was written before a fault
 pub record StoresFront (scheme : Scheme) (before now : PwOutside) : Type 0 where
   pub heard : Hears before now
   pub front : WrittenFront (stored_line scheme heard.plain heard.salt) before.contents now.contents before.write_faults now.write_faults

@@ -1,6 +1,5 @@
 // Reading of a source to its end.
 
-ghost use Rattle.std.specs.Prelude.{◌<◌, ◌^◌};
 ghost use Rattle.da_app.specs.Gather.{Gathers};
 
 use da_outside::Source;
@@ -24,7 +23,6 @@ pub enum Gathered {
 /// The bytes of a source, read to its end. `Long` exactly where they are more than `max`; the source is then read no
 /// further.
 pub fn read_up_to<S: Source>(alloc: Global, source: &mut S, max: usize) -> Gathered
-    requires { max < 2 ^ 32 }
     ensures { Gathers max (S.left source.old) (S.left source.new) (S.faults source.old) (S.faults source.new) result }
 {
     let mut bytes = Vec::new(alloc);

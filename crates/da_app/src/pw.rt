@@ -1,7 +1,8 @@
 // The command `pw`.
 
-ghost use Rattle.std.specs.Prelude.{◌≡◌, ◌++◌, ◌∷◌, [], map, string_bytes, IfOk, MatchOption, Some};
+ghost use Rattle.std.specs.Prelude.{◌≡◌, ◌++◌, ◌∷◌, [], length, map, string_bytes, IfOk, MatchOption, Some};
 ghost use Rattle.std.specs.List.{list_all};
+ghost use Rattle.base64.specs.GeneralPurpose.{IsBytes};
 ghost use Rattle.da_app.specs.Pw.{is_no_nul, is_password, IsPasswordLine, IsNoPasswordLine, pw_scheme, scheme_after, stored_line, Pws, CompletesPw};
 
 use crate::gather::{Gathered, read_up_to};
@@ -122,7 +123,8 @@ fn line_of(
     plain: &[u8],
     salt: &[u8; 16],
 ) -> Result<Vec<u8>, AllocError>
-    ensures { IfOk result (λ line. line.items ≡ stored_line scheme plain.now salt.now) }
+    ensures line { IfOk result (λ line. line.items ≡ stored_line scheme plain.now salt.now) }
+    ensures salt { (length salt.now ≡ 16) × IsBytes salt.now }
 {
     let mut line = make(alloc, scheme, plain, salt)?;
     line.push(b'\n')?;

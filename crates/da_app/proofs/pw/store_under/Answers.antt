@@ -2,6 +2,7 @@ use Rattle.std.proofs.Common.{refl, subst, ◌∙◌, inr}
 use Rattle.std.specs.Io.KnownBytes.{Appends}
 use Rattle.std.proofs.KnownBytes.{Keeps-refl}
 use Rattle.da_base.specs.Words.{Bytes}
+use Rattle.da_schemes.proofs.MadeTexts.{IsMade-made}
 use Rattle.da_app.specs.Output.{WrittenFront}
 use Rattle.da_app.specs.Pw.{IsPasswordLine, IsNoPasswordLine}
 use Rattle.da_app.proofs.PwLemmas.{off_long, unwritten}
@@ -40,10 +41,13 @@ returns-in-Ok-write_all g c =
         ends = c.in-Whole.ensures.1;
         is_line = subst (λ (b : Bytes). IsPasswordLine b c.in-Some.plain.now) c.deref.ensures.value c.in-Some.ensures;
         draws = c.bytes-salt.ensures;
+        sixteen = c.line_of.ensures.salt.0;
+        bytes = c.line_of.ensures.salt.1;
       };
       writes =
-          subst (λ (t : Bytes). Appends (g.K.Sink.contents c.args.output.now) (g.K.Sink.contents c.write_all.new.sink) t) (c.deref-2.ensures.value ∙ c.in-Ok.ensures)
+          subst (λ (t : Bytes). Appends (g.K.Sink.contents c.args.output.now) (g.K.Sink.contents c.write_all.new.sink) t) (c.deref-2.ensures.value ∙ c.in-Ok.ensures.line)
           c.in-Ok-write_all.ensures.0;
+      right = λ default. IsMade-made default c.args.scheme c.in-Some.plain.now c.bytes-salt.result c.line_of.ensures.salt.0 c.line_of.ensures.salt.1;
     }
 
 pub returns : goal.returns
@@ -57,10 +61,12 @@ returns g c =
         ends = c.in-Whole.ensures.1;
         is_line = subst (λ (b : Bytes). IsPasswordLine b c.in-Some.plain.now) c.deref.ensures.value c.in-Some.ensures;
         draws = c.bytes-salt.ensures;
+        sixteen = c.line_of.ensures.salt.0;
+        bytes = c.line_of.ensures.salt.1;
       };
       front =
           subst
           (λ (t : Bytes). WrittenFront t (g.K.Sink.contents c.args.output.now) (g.K.Sink.contents c.write_all.new.sink) (g.K.Sink.faults c.args.output.now) (g.K.Sink.faults c.write_all.new.sink))
-          (c.deref-2.ensures.value ∙ c.in-Ok.ensures)
+          (c.deref-2.ensures.value ∙ c.in-Ok.ensures.line)
           c.in-Err.ensures;
     }
