@@ -1,0 +1,6 @@
+//! Workers: a program that answers queries by passwd-files.
+#![tactic(auto)]
+
+mod passwd;
+
+pub use passwd::row;
