@@ -8,13 +8,15 @@ use Rattle.da_base.specs.Words.{Bytes}
 use Rattle.da_outside.specs.Files.{File, bytes_at}
 use Rattle.da_outside.specs.Past.{Stays}
 use Rattle.da_outside.specs.declared.files.FileRead.{FileRead}
-use Rattle.da_app.specs.declared.settings.Fault.{Fault}
-use Rattle.da_app.specs.declared.settings.FaultKind.TheVariants.{Range}
-use Rattle.da_app.specs.declared.settings.ConfigFault.{ConfigFault}
-use Rattle.da_app.specs.declared.settings.ConfigFault.TheVariants.{Bad, NoMemory as TextNoMemory}
+use Rattle.da_config.specs.declared.fault.Fault.{Fault}
+use Rattle.da_config.specs.declared.fault.FaultKind.TheVariants.{Range}
+use Rattle.da_config.specs.declared.fault.ConfigFault.{ConfigFault}
+use Rattle.da_config.specs.declared.fault.ConfigFault.TheVariants.{Bad, NoMemory as TextNoMemory}
 use Rattle.da_app.specs.declared.status.Status.{Status}
 use Rattle.da_app.specs.declared.status.Status.TheVariants.{Done, Usage, BadScript, LongScript, BadInput, NoSettings, NoListen, NoMemory, ReadFault, WriteFault, Full, BadSettings}
-use Rattle.da_app.specs.Settings.{settings_of, fault_at_all, Reads}
+use Rattle.da_config.specs.Reading.{IsRead}
+use Rattle.da_config.specs.SettingsText.{fault_at_all}
+use Rattle.da_app.specs.Settings.{settings_of}
 use Rattle.da_app.specs.Drive.{Outside, IsUntouched, RunsWith, Drives, Completes, IsTooLong, fault_status}
 use Rattle.da_app.proofs.Complete.{completes}
 
@@ -22,7 +24,7 @@ pub Stays-refl : (past : Option (List FileRead)) → Stays past past
 Stays-refl None = tt
 Stays-refl (Some past) = refl
 
-IfSome-map : (o : Option (List File)) (P Q : List File → Type 0) → ((files : List File) → P files → Q files) → IfSome o P → IfSome o Q
+pub IfSome-map : (o : Option (List File)) (P Q : List File → Type 0) → ((files : List File) → P files → Q files) → IfSome o P → IfSome o Q
 IfSome-map None P Q f some = tt
 IfSome-map (Some files) P Q f some = f files some
 
@@ -66,7 +68,7 @@ drives_bad path before now text fault is bad same = (
 
 -- a text that gave no settings
 pub drives_fault : (path : Bytes) (before now : Outside) (text : Bytes) (fault : ConfigFault) (status : Status) → IfSome before.held (λ files. text ≡ bytes_at files path)
-    → Reads text (Err fault) → IsUntouched before now → status ≡ fault_status fault → Drives (Some path) before now status
+    → IsRead (settings_of text) (Err fault) → IsUntouched before now → status ≡ fault_status fault → Drives (Some path) before now status
 drives_fault path before now text (Bad fault) status is bad same e =
     subst (λ (s : Status). Drives (Some path) before now s) (sym e) (drives_bad path before now text fault is bad same)
 drives_fault path before now text TextNoMemory status is bad same e = subst (λ (s : Status). Drives (Some path) before now s) (sym e) (inl same)

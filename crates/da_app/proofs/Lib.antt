@@ -2,4 +2,5 @@ pub mod EventLemmas
 pub mod Running
 pub mod Complete
 pub mod DriveLemmas
+pub mod CheckLemmas
 pub mod PwLemmas

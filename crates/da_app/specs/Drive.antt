@@ -10,10 +10,11 @@ use Rattle.da_outside.specs.declared.faults.Got.TheVariants.{Fault as GotFault}
 use Rattle.da_hist.specs.declared.settings.Settings.{Settings}
 use Rattle.da_app.specs.declared.status.Status.{Status}
 use Rattle.da_app.specs.declared.status.Status.TheVariants.{Done, Usage, NoSettings, NoMemory, BadSettings}
-use Rattle.da_app.specs.declared.settings.FaultKind.TheVariants.{Range}
-use Rattle.da_app.specs.declared.settings.ConfigFault.{ConfigFault}
-use Rattle.da_app.specs.declared.settings.ConfigFault.TheVariants.{Bad, NoMemory as TextNoMemory}
-use Rattle.da_app.specs.Settings.{settings_of, fault_at_all}
+use Rattle.da_config.specs.declared.fault.FaultKind.TheVariants.{Range}
+use Rattle.da_config.specs.declared.fault.ConfigFault.{ConfigFault}
+use Rattle.da_config.specs.declared.fault.ConfigFault.TheVariants.{Bad, NoMemory as TextNoMemory}
+use Rattle.da_config.specs.SettingsText.{fault_at_all}
+use Rattle.da_app.specs.Settings.{settings_of}
 use Rattle.da_app.specs.Script.{first_bad_at_end}
 use Rattle.da_app.specs.Play.{Ran}
 

@@ -9,5 +9,7 @@ pub mod Play
 pub mod Drive
 pub mod Statuses
 pub mod Commands
+pub mod SettingsFile
+pub mod Check
 pub mod Gather
 pub mod Pw

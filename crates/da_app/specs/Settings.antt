@@ -1,20 +1,15 @@
 -- The settings text.
-use Rattle.std.specs.Prelude.{◌≡◌, ⊤, Bool, ◌||◌, length, Result, Ok, Err, if◌then◌else◌, nat_lt, bytes_eq, codes}
+use Rattle.std.specs.Prelude.{Bool, ◌||◌, length, Result, Ok, Err, if◌then◌else◌, nat_lt, bytes_eq, codes}
 use Rattle.da_base.specs.Words.{Bytes}
 use Rattle.da_hist.specs.declared.settings.Settings.{Settings}
 use Rattle.da_hist.specs.UsualSettings.{usual_settings}
-use Rattle.da_app.specs.declared.settings.Fault.{Fault}
-use Rattle.da_app.specs.declared.settings.FaultKind.{FaultKind}
-use Rattle.da_app.specs.declared.settings.FaultKind.TheVariants.{Unknown, Range}
-use Rattle.da_app.specs.declared.settings.ConfigFault.{ConfigFault}
-use Rattle.da_app.specs.declared.settings.ConfigFault.TheVariants.{Bad, NoMemory}
+use Rattle.da_config.specs.declared.fault.Fault.{Fault}
+use Rattle.da_config.specs.declared.fault.FaultKind.TheVariants.{Unknown, Range}
+use Rattle.da_config.specs.SettingsText.{fault_at_all}
 
 -- the only settings text so far is one line, whose LF may be missing: the usual settings, and failures told at once
 abbrev pub is_first_text : Bytes → Bool
 is_first_text text = bytes_eq text (codes "failure_delay = 0") || bytes_eq text (codes "failure_delay = 0\n")
-
-abbrev pub fault_at_all : FaultKind → Fault
-fault_at_all what = record { place = codes "settings"; kind = what }
 
 -- a text of more than 1,048,576 bytes is out of range, before any look into it
 abbrev pub settings_of : Bytes → Result Settings Fault
@@ -22,14 +17,3 @@ settings_of text =
     if nat_lt 1048576 (length text) then Err (fault_at_all Range)
     else if is_first_text text then Ok (usual_settings 0)
     else Err (fault_at_all Unknown)
-
--- what a reader of the text answers
-abbrev pub Reads : Bytes → Result Settings ConfigFault → Type 0
-Reads text (Ok settings) = settings_of text ≡ Ok settings
-Reads text (Err (Bad fault)) = settings_of text ≡ Err fault
-Reads text (Err NoMemory) = ⊤
-
--- this fault of the text as a whole, or want of memory
-abbrev pub IsBad : FaultKind → ConfigFault → Type 0
-IsBad what (Bad fault) = fault ≡ fault_at_all what
-IsBad what NoMemory = ⊤

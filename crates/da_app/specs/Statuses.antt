@@ -1,8 +1,8 @@
 -- The exit code of a status, and its words.
 use Rattle.std.specs.Prelude.{ℕ, [], ◌++◌, codes, decimal}
 use Rattle.da_base.specs.Words.{Bytes}
-use Rattle.da_app.specs.declared.settings.FaultKind.{FaultKind}
-use Rattle.da_app.specs.declared.settings.FaultKind.TheVariants.{NotToml, Unknown, Kind as WrongKind, Range, Conflict}
+use Rattle.da_config.specs.declared.fault.FaultKind.{FaultKind}
+use Rattle.da_config.specs.declared.fault.FaultKind.TheVariants.{NotToml, Unknown, Kind as WrongKind, Range, Conflict}
 use Rattle.da_app.specs.declared.status.Status.{Status}
 use Rattle.da_app.specs.declared.status.Status.TheVariants.{Done, Usage, BadScript, LongScript, BadInput, NoSettings, NoListen, NoMemory, ReadFault, WriteFault, Full, BadSettings}
 

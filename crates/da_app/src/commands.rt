@@ -8,11 +8,13 @@ ghost use Rattle.da_app.specs.Commands.{command_name, command_named};
 pub enum Command {
     /// Plays a script of events.
     Drive,
+    /// Reads settings, and tells how many databases they have.
+    Check,
     /// Makes the stored form of a password.
     Pw,
 }
 
-const COMMANDS: [Command; 2] = [Command::Drive, Command::Pw];
+const COMMANDS: [Command; 3] = [Command::Drive, Command::Check, Command::Pw];
 
 impl Command {
     fn name(self) -> &'static [u8]
@@ -20,6 +22,7 @@ impl Command {
     {
         match self {
             Command::Drive => b"drive",
+            Command::Check => b"check",
             Command::Pw => b"pw",
         }
     }

@@ -5,9 +5,10 @@ ghost use Rattle.da_app.specs.Words.{drive_path};
 ghost use Rattle.da_app.specs.Drive.{Drives, Completes, IsTooLong, fault_status};
 
 use crate::play::play_script;
-use crate::settings::{ConfigFault, FaultKind, SETTINGS_MAX, fault_of_text, read};
+use crate::settings::{SETTINGS_MAX, fault_of_text, read};
 use crate::status::Status;
 use crate::words::path_of_drive;
+use da_config::{ConfigFault, FaultKind};
 use da_outside::{Files, GetFault, Sink, Source};
 use std::alloc::Global;
 
@@ -35,7 +36,8 @@ pub fn run_drive<S: Source, K: Sink, F: Files>(
     }
 }
 
-fn status_of_fault(fault: ConfigFault) -> Status
+/// The status of a text that gave no settings.
+pub fn status_of_fault(fault: ConfigFault) -> Status
     ensures { result ≡ fault_status fault }
 {
     match fault {
@@ -44,7 +46,8 @@ fn status_of_fault(fault: ConfigFault) -> Status
     }
 }
 
-fn long_text(alloc: Global) -> Status
+/// The status of a text that is too long, or want of memory.
+pub fn long_text(alloc: Global) -> Status
     ensures { IsTooLong result }
 {
     match fault_of_text(alloc, FaultKind::Range) {

@@ -1,8 +1,10 @@
 //! The commands of the program, over anything that they may read from and write to. `run_drive` plays a script of events
 //! and writes the server's replies; its contract says what it read, what it wrote and what caused its end, for every
-//! status (`specs/Drive.antt`). `run_pw` makes the stored form of a password (`specs/Pw.antt`).
+//! status (`specs/Drive.antt`). `run_check` reads settings and writes how many databases they have (`specs/Check.antt`).
+//! `run_pw` makes the stored form of a password (`specs/Pw.antt`).
 #![tactic(auto)]
 
+mod check;
 mod commands;
 mod drive;
 mod events;
@@ -13,16 +15,20 @@ mod play;
 mod print;
 mod pw;
 mod settings;
+mod settings_file;
 mod status;
 mod words;
 
+pub use check::run_check;
 pub use commands::Command;
+pub use da_config::{Fault, FaultKind};
 pub use drive::run_drive;
 pub use pw::run_pw;
-pub use settings::{Fault, FaultKind};
 pub use status::Status;
 pub use words::command;
 
+#[cfg(test)]
+mod check_tests;
 #[cfg(test)]
 mod pw_tests;
 #[cfg(test)]

@@ -1,41 +1,14 @@
 // The settings text.
 
 ghost use Rattle.std.specs.Prelude.{◌≡◌, IfOk};
-ghost use Rattle.da_app.specs.Settings.{IsBad, Reads, fault_at_all, is_first_text};
+ghost use Rattle.da_config.specs.Reading.{IsRead, IsTold};
+ghost use Rattle.da_config.specs.SettingsText.{fault_at_all};
+ghost use Rattle.da_app.specs.Settings.{is_first_text, settings_of};
 
+use da_config::{ConfigFault, Fault, FaultKind};
 use da_fields::Text;
 use da_hist::Settings;
 use std::alloc::{AllocError, Global};
-
-/// What is wrong with a setting.
-#[derive(Clone, Copy, Debug, Drop, PartialEq, Eq)]
-pub enum FaultKind {
-    /// The text isn't TOML.
-    NotToml,
-    /// There is no setting of this name.
-    Unknown,
-    /// The value is of another kind.
-    Kind,
-    /// The value is out of its range.
-    Range,
-    /// The value goes against another one.
-    Conflict,
-}
-
-/// The first fault of a settings text.
-#[derive(Drop)]
-pub struct Fault {
-    /// The name of the setting, or `settings` for the text as a whole.
-    pub place: Text,
-    pub kind: FaultKind,
-}
-
-/// Why a text gave no settings.
-#[derive(Drop)]
-pub enum ConfigFault {
-    Bad(Fault),
-    NoMemory,
-}
 
 /// The most bytes that a settings text may have.
 pub const SETTINGS_MAX: usize = 1_048_576;
@@ -57,7 +30,7 @@ fn is_known(text: &[u8]) -> bool
 }
 
 fn bad(alloc: Global, kind: FaultKind) -> ConfigFault
-    ensures { IsBad kind result }
+    ensures { IsTold (fault_at_all kind) result }
 {
     match fault_of_text(alloc, kind) {
         Ok(fault) => ConfigFault::Bad(fault),
@@ -67,7 +40,7 @@ fn bad(alloc: Global, kind: FaultKind) -> ConfigFault
 
 /// The settings that the text stands for.
 pub fn read(alloc: Global, text: &[u8]) -> Result<Settings, ConfigFault>
-    ensures { Reads text.now result }
+    ensures { IsRead (settings_of text.now) result }
 {
     if text.len() > SETTINGS_MAX {
         return Err(bad(alloc, FaultKind::Range));

@@ -4,7 +4,7 @@ ghost use Rattle.std.specs.Prelude.{◌≡◌, ◌++◌, codes, decimal, IfOk};
 ghost use Rattle.da_app.specs.Statuses.{status_code, status_words, kind_words};
 
 use crate::print::push_number;
-use crate::settings::{Fault, FaultKind};
+use da_config::{Fault, FaultKind};
 use std::alloc::{AllocError, Global};
 
 /// How a command ended.

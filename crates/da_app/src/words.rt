@@ -1,8 +1,8 @@
 // The words of a command line.
 
 ghost use Rattle.std.specs.Prelude.{◌≡◌, map, option_copied, string_bytes};
-ghost use Rattle.da_app.specs.Words.{is_value, path_of, drive_path};
 ghost use Rattle.da_app.specs.Commands.{command_of};
+ghost use Rattle.da_app.specs.Words.{is_value, path_of, command_path, drive_path, check_path};
 
 use crate::commands::Command;
 
@@ -29,16 +29,29 @@ fn may_be_value(word: &[u8]) -> bool
 pub fn path_of_drive(words: &[String]) -> Option<&[u8]>
     ensures { option_copied result ≡ drive_path (map string_bytes words.now) }
 {
+    path_of_command(b"drive", words)
+}
+
+/// The path of `check PATH`. `None` exactly where the words are off this form.
+pub fn path_of_check(words: &[String]) -> Option<&[u8]>
+    ensures { option_copied result ≡ check_path (map string_bytes words.now) }
+{
+    path_of_command(b"check", words)
+}
+
+fn path_of_command<'a>(name: &[u8], words: &'a [String]) -> Option<&'a [u8]>
+    ensures { option_copied result ≡ command_path name.now (map string_bytes words.now) }
+{
     match words {
-        [command, path] => path_after(command.as_bytes(), path.as_bytes()),
+        [command, path] => path_after(name, command.as_bytes(), path.as_bytes()),
         _ => None,
     }
 }
 
-fn path_after<'a>(command: &[u8], path: &'a [u8]) -> Option<&'a [u8]>
-    ensures { option_copied result ≡ path_of command.now path.now }
+fn path_after<'a>(name: &[u8], command: &[u8], path: &'a [u8]) -> Option<&'a [u8]>
+    ensures { option_copied result ≡ path_of name.now command.now path.now }
 {
-    if command == b"drive".as_slice() && may_be_value(path) {
+    if command == name && may_be_value(path) {
         Some(path)
     } else {
         None

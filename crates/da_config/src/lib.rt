@@ -17,3 +17,6 @@ mod userdb;
 
 pub use document::read;
 pub use fault::{ConfigFault, Fault, FaultKind};
+
+#[cfg(test)]
+mod tests;

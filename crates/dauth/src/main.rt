@@ -6,7 +6,7 @@ mod adapters;
 mod random;
 
 use adapters::{Disk, Input, Output};
-use da_app::{Command, Status, command, run_drive, run_pw};
+use da_app::{Command, Status, command, run_check, run_drive, run_pw};
 use random::Random;
 use std::alloc::{AllocError, Global};
 use std::env;
@@ -46,13 +46,14 @@ fn run(rt: &HostRuntime, words: &[String]) -> io::Result<Status> {
     let alloc = rt.alloc();
     let mut input = Input::new(rt.stdin());
     let mut output = Output::new(rt.stdout().as_raw_fd());
+    let mut files = Disk::new(rt);
     match command(words) {
+        Some(Command::Check) => Ok(run_check(alloc, words, &mut files, &mut output)),
         Some(Command::Pw) => {
             let mut rand = Random::new(rt)?;
             Ok(run_pw(alloc, words, &mut input, &mut output, &mut rand))
         }
         Some(Command::Drive) | None => {
-            let mut files = Disk::new(rt);
             Ok(run_drive(alloc, words, &mut files, &mut input, &mut output))
         }
     }

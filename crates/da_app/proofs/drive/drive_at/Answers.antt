@@ -1,6 +1,7 @@
 use Rattle.std.proofs.Common.{refl, sym, ap, ◌∙◌, subst, inl, Err}
 use Rattle.da_base.specs.Words.{Bytes}
-use Rattle.da_app.specs.Settings.{settings_of, Reads}
+use Rattle.da_config.specs.Reading.{IsRead}
+use Rattle.da_app.specs.Settings.{settings_of}
 use Rattle.da_app.specs.Drive.{Outside}
 use Rattle.da_app.proofs.DriveLemmas.{untouched, drives_long, drives_fault, drives_ran}
 use Rattle.da_app.proofs.drive.drive_at.Goals as goal
@@ -39,5 +40,5 @@ pub returns : goal.returns
 returns g c =
     let before : Outside = record { held = g.F.Files.held c.args.files.now; past = g.F.Files.past c.args.files.now; left = g.S.Source.left c.args.input.now; contents = g.K.Sink.contents c.args.output.now; file_faults = g.F.Files.faults c.args.files.now; read_faults = g.S.Source.faults c.args.input.now; write_faults = g.K.Sink.faults c.args.output.now } in
     let now : Outside = record { held = g.F.Files.held c.read.new.self; past = g.F.Files.past c.read.new.self; left = g.S.Source.left c.args.input.now; contents = g.K.Sink.contents c.args.output.now; file_faults = g.F.Files.faults c.read.new.self; read_faults = g.S.Source.faults c.args.input.now; write_faults = g.K.Sink.faults c.args.output.now } in
-    let faulty : Reads c.in-Ok.text.items (Err c.in-Err.fault) = subst (λ (t : Bytes). Reads t (Err c.in-Err.fault)) c.deref.ensures.value c.in-Err.ensures in
+    let faulty : IsRead (settings_of c.in-Ok.text.items) (Err c.in-Err.fault) = subst (λ (t : Bytes). IsRead (settings_of t) (Err c.in-Err.fault)) c.deref.ensures.value c.in-Err.ensures in
     drives_fault c.args.path.now before now c.in-Ok.text.items c.in-Err.fault c.status_of_fault.result c.in-Ok.ensures.gives.1 faulty (untouched before now refl refl) c.status_of_fault.ensures

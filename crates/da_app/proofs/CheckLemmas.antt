@@ -1,0 +1,114 @@
+-- Lemmas on the read of a settings file and on its check, by the status.
+use Rattle.std.proofs.Common.{◌≡◌, ℕ, ◌<◌, List, length, Option, Some, None, Err, sym, ap, ◌∙◌, subst}
+use Rattle.std.specs.Prelude.{IfSome}
+use Rattle.std.specs.Io.KnownBytes.{Keeps}
+use Rattle.std.proofs.lemmas.Bool.{lt-ltb}
+use Rattle.da_base.specs.Words.{Bytes}
+use Rattle.da_outside.specs.Files.{File, bytes_at}
+use Rattle.da_outside.specs.declared.files.FileRead.{FileRead}
+use Rattle.da_config.specs.declared.fault.Fault.{Fault}
+use Rattle.da_config.specs.declared.fault.FaultKind.TheVariants.{Range}
+use Rattle.da_config.specs.declared.fault.ConfigFault.{ConfigFault}
+use Rattle.da_config.specs.declared.fault.ConfigFault.TheVariants.{Bad, NoMemory as TextNoMemory}
+use Rattle.da_config.specs.Reading.{IsRead}
+use Rattle.da_config.specs.SettingsText.{settings_of, fault_at_all}
+use Rattle.da_app.specs.declared.status.Status.{Status}
+use Rattle.da_app.specs.declared.status.Status.TheVariants.{Done, Usage, BadScript, LongScript, BadInput, NoSettings, NoListen, NoMemory, ReadFault, WriteFault, Full, BadSettings}
+use Rattle.da_app.specs.SettingsFile.{ReadsSettings}
+use Rattle.da_app.specs.Check.{CheckOutside, ChecksWith, Checks, IsGoodFile, CompletesCheck}
+use Rattle.da_app.specs.Drive.{IsTooLong, fault_status, IsDone}
+use Rattle.da_app.proofs.DriveLemmas.{IfSome-map}
+
+-- ---- the read of the file
+
+long_settings : (text : Bytes) (fault : Fault) → 1048576 < length text → fault ≡ fault_at_all Range → settings_of text ≡ Err fault
+unfolding settings_of
+long_settings text fault long is = rw (lt-ltb 1048576 (length text) long) (ap (λ (f : Fault). Err f) (sym is))
+
+-- a file that is too long
+pub reads_long : (path : Bytes) (held : Option (List File)) (past_before past_now : Option (List FileRead)) (faults_before faults_now : ℕ) (status : Status)
+    → IsTooLong status → IfSome held (λ files. 1048576 < length (bytes_at files path))
+    → ReadsSettings path held past_before past_now faults_before faults_now (Err status)
+reads_long path held p0 p1 f0 f1 (BadSettings fault) is long =
+    IfSome-map held (λ files. 1048576 < length (bytes_at files path)) (λ files. settings_of (bytes_at files path) ≡ Err fault)
+    (λ files more. long_settings (bytes_at files path) fault more is) long
+reads_long path held p0 p1 f0 f1 NoMemory is long = tt
+reads_long path held p0 p1 f0 f1 Done is long = absurd is
+reads_long path held p0 p1 f0 f1 Usage is long = absurd is
+reads_long path held p0 p1 f0 f1 (BadScript line) is long = absurd is
+reads_long path held p0 p1 f0 f1 LongScript is long = absurd is
+reads_long path held p0 p1 f0 f1 BadInput is long = absurd is
+reads_long path held p0 p1 f0 f1 NoSettings is long = absurd is
+reads_long path held p0 p1 f0 f1 NoListen is long = absurd is
+reads_long path held p0 p1 f0 f1 ReadFault is long = absurd is
+reads_long path held p0 p1 f0 f1 WriteFault is long = absurd is
+reads_long path held p0 p1 f0 f1 Full is long = absurd is
+
+-- a text that gave no settings
+pub reads_fault : (path : Bytes) (held : Option (List File)) (past_before past_now : Option (List FileRead)) (faults_before faults_now : ℕ) (text : Bytes)
+    (fault : ConfigFault) (status : Status) → IfSome held (λ files. text ≡ bytes_at files path) → IsRead (settings_of text) (Err fault)
+    → status ≡ fault_status fault → ReadsSettings path held past_before past_now faults_before faults_now (Err status)
+reads_fault path held p0 p1 f0 f1 text (Bad fault) status is bad same =
+    subst (λ (s : Status). ReadsSettings path held p0 p1 f0 f1 (Err s)) (sym same)
+    (IfSome-map held (λ files. text ≡ bytes_at files path) (λ files. settings_of (bytes_at files path) ≡ Err fault)
+    (λ files e. ap settings_of (sym e) ∙ bad) is)
+reads_fault path held p0 p1 f0 f1 text TextNoMemory status is bad same =
+    subst (λ (s : Status). ReadsSettings path held p0 p1 f0 f1 (Err s)) (sym same) tt
+
+-- ---- the check
+
+-- no settings were read, and nothing was written
+pub checks_unread : (path : Bytes) (before now : CheckOutside) (status : Status)
+    → ReadsSettings path before.held before.past now.past before.file_faults now.file_faults (Err status)
+    → Keeps before.contents now.contents → Checks (Some path) before now status
+checks_unread path before now NoSettings read same = (read.0, read.1, same)
+checks_unread path before now (BadSettings fault) read same = (read, same)
+checks_unread path before now NoMemory read same = same
+checks_unread path before now Done read same = absurd read
+checks_unread path before now Usage read same = absurd read
+checks_unread path before now (BadScript line) read same = absurd read
+checks_unread path before now LongScript read same = absurd read
+checks_unread path before now BadInput read same = absurd read
+checks_unread path before now NoListen read same = absurd read
+checks_unread path before now ReadFault read same = absurd read
+checks_unread path before now WriteFault read same = absurd read
+checks_unread path before now Full read same = absurd read
+
+-- settings were read, and their counts told
+pub checks_told : (path : Bytes) (before now : CheckOutside) (status : Status) → ChecksWith path before now status → Checks (Some path) before now status
+checks_told path before now Done told = told
+checks_told path before now WriteFault told = told
+checks_told path before now NoMemory told = told.tells
+checks_told path before now NoSettings told = absurd told.tells
+checks_told path before now (BadSettings fault) told = absurd told.tells
+checks_told path before now Usage told = absurd told.tells
+checks_told path before now (BadScript line) told = absurd told.tells
+checks_told path before now LongScript told = absurd told.tells
+checks_told path before now BadInput told = absurd told.tells
+checks_told path before now NoListen told = absurd told.tells
+checks_told path before now ReadFault told = absurd told.tells
+checks_told path before now Full told = absurd told.tells
+
+pub checks_along : (o words : Option Bytes) (before now : CheckOutside) (status : Status) → o ≡ words → Checks o before now status → Checks words before now status
+checks_along o words before now status same how = subst (λ (w : Option Bytes). Checks w before now status) same how
+
+completes_file : (path : Bytes) (before now : CheckOutside) (status : Status) → Checks (Some path) before now status → IsGoodFile path before now → IsDone status
+completes_file path before now Done how good = tt
+completes_file path before now NoMemory how good = tt
+completes_file path before now WriteFault how good = good.sink_sound how.tells.rose
+completes_file path before now NoSettings how good = good.file_sound how.0
+completes_file path before now (BadSettings fault) how good =
+    let bad = subst (λ h. IfSome h (λ files. settings_of (bytes_at files path) ≡ Err fault)) good.held how.0 in
+    let clash = sym good.is_settings ∙ bad in
+    cc
+completes_file path before now Usage how good = how
+completes_file path before now (BadScript line) how good = how.tells
+completes_file path before now LongScript how good = how.tells
+completes_file path before now BadInput how good = how.tells
+completes_file path before now NoListen how good = how.tells
+completes_file path before now ReadFault how good = how.tells
+completes_file path before now Full how good = how.tells
+
+pub completes_check : (words : Option Bytes) (before now : CheckOutside) (status : Status) → Checks words before now status → CompletesCheck words before now status
+completes_check None before now status how = tt
+completes_check (Some path) before now status how = completes_file path before now status how
