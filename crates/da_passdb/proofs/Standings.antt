@@ -10,7 +10,7 @@ use Rattle.da_chain.proofs.Tests.{three_parts, both_true}
 use Rattle.da_fields.specs.Answers.{Answers, answer_from}
 use Rattle.da_fields.specs.declared.answer.Answer.{Answer}
 use Rattle.da_fields.specs.declared.answer.QueryKind.{QueryKind}
-use Rattle.da_passdb.specs.Cursors.{IsMaster, IsAhead, IsFresh, IsStandAfter, TellsChain, IsAsk, IsAsking, with_answer_to, TakesAnswer}
+use Rattle.da_passdb.specs.Cursors.{IsMaster, IsAhead, IsFresh, IsStandAfter, IsAlong, TellsChain, IsAsk, IsAsking, with_answer_to, TakesAnswer}
 use Rattle.da_passdb.specs.LoginChain.{are_valid_from, are_valid_passdbs, is_valid_passdb, no_progress, Asking, continued, walk, verdict, master_databases, after_masters, chain_for, login_chain}
 use Rattle.da_passdb.specs.Outcomes.{query_kind}
 use Rattle.da_passdb.specs.Places.{part_for, first_part, are_masters, is_of, databases_of, asked_name, part_move, finish, chain_from, chain_at, chain_of_stand, told_at, StandsAt, Stands, IsWithin, IsFurther, GoesOnWith}
@@ -280,3 +280,13 @@ takes dbs a before after index copied at equal kept goes stands further = λ log
       login_is = kept ∙ s.login_is;
       stand = subst (λ l. IsStandAfter dbs login l after.stand) (sym (ap (λ chain. with_answer_to chain a answers) told)) taken;
     }
+
+-- ---- one answer after the other
+
+-- a cursor that tells a question asks
+pub asks_as_told : (dbs : List Passdb) (cursor : Cursor) (chain : Chain) → IsAlong dbs cursor → TellsChain dbs cursor chain → IsAsk chain → IsAsking dbs cursor
+asks_as_told dbs cursor chain a told ask = (a.0, a.1, a.2, subst IsAsk (told a.0 a.1 a.2) ask)
+
+-- it stays one of the chain
+pub along_after : (dbs : List Passdb) (a : Answer) (before after : Cursor) → IsAlong dbs before → TakesAnswer dbs a before after → IsAlong dbs after
+along_after dbs a before after s takes = (s.0, with_answer_to (login_chain dbs s.0 s.1) a s.1, takes s.0 s.1 s.2)

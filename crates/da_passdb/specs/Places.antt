@@ -1,11 +1,9 @@
 -- A place in a login's chain, and the rest of the chain from there.
-use Rattle.std.specs.Prelude.{◌≡◌, ℕ, ◌<◌, ◌≤◌, Bool, true, false, ◌||◌, not, List, Option, Some, None, length, drop, slice_get, if◌then◌else◌, IsTrue}
+use Rattle.std.specs.Prelude.{◌≡◌, ℕ, ◌<◌, ◌≤◌, Bool, true, false, not, List, Option, Some, None, length, drop, slice_get, if◌then◌else◌, IsTrue}
 use Rattle.da_base.specs.Words.{Bytes, option_or_else}
 use Rattle.da_fields.specs.Answers.{Answers, answer_from}
 use Rattle.da_fields.specs.declared.answer.Answer.{Answer}
 use Rattle.da_fields.specs.declared.outcome.Outcome.TheVariants.{Success}
-use Rattle.da_fields.specs.declared.outcome.Rule.{Rule}
-use Rattle.da_fields.specs.declared.outcome.Rule.TheVariants.{ReturnOk, ReturnFail, Return, ContinueOk, ContinueFail, Continue}
 use Rattle.da_passdb.specs.declared.chain.Chain.{Chain}
 use Rattle.da_passdb.specs.declared.chain.Chain.TheVariants.{Ask, Done}
 use Rattle.da_passdb.specs.declared.chain.VerdictKind.TheVariants.{Fail as IsFail}
@@ -58,7 +56,7 @@ abbrev pub has_authz : Part → Login → Bool
 has_authz AfterMasters login = is_plaintext_proof login.proof
 has_authz _ login = false
 
--- ---- outcomes and rules
+-- ---- outcomes
 
 -- a success without a password that was checked before has the answer's stored password
 abbrev pub HasCredentials : Passdb → Bool → Answer → Judged → Type 0
@@ -67,15 +65,6 @@ HasCredentials db checked answer judged = judged.outcome ≡ Success → checked
 pub record IsJudged (db : Passdb) (login : Login) (checked : Bool) (answer : Answer) (judged : Judged) : Type 0 where
   pub outcome : judged.outcome ≡ outcome db login checked answer
   pub credentials : HasCredentials db checked answer judged
-
--- the state after a rule
-abbrev pub after_rule : Rule → Bool → Progress → Progress
-after_rule ReturnOk succeeded p = record p { success = true }
-after_rule ReturnFail succeeded p = record p { success = false }
-after_rule Return succeeded p = p
-after_rule ContinueOk succeeded p = record p { success = true; checked = true }
-after_rule ContinueFail succeeded p = record p { success = false; checked = false }
-after_rule Continue succeeded p = record p { checked = p.checked || succeeded }
 
 -- ---- moves
 

@@ -18,3 +18,6 @@ pub use cursor::{Cursor, next};
 pub use da_fields::Rule;
 pub use database::{Driver, Passdb, Skip, are_valid_passdbs};
 pub use login::{Login, Proof};
+
+#[cfg(test)]
+mod tests;

@@ -2,7 +2,7 @@
 
 ghost use Rattle.std.specs.Prelude.{◌≡◌, IfOk};
 ghost use Rattle.da_passdb.specs.LoginChain as words;
-ghost use Rattle.da_passdb.specs.Places.{are_masters, after_rule, followed, JumpsFrom};
+ghost use Rattle.da_passdb.specs.Places.{are_masters, followed, JumpsFrom};
 
 use crate::chain::VerdictKind;
 use crate::part::Part;
@@ -77,9 +77,10 @@ impl Progress {
         }
     }
 
-    // Whether there is success, and whether a password counts as checked, after a rule.
-    fn set_success(&mut self, rule: Rule, succeeded: bool)
-        ensures { self.new ≡ after_rule rule succeeded self.old }
+    /// Obeys a rule: whether there is success, and how the chain goes on.
+    pub(crate) fn obey(&mut self, rule: Rule, succeeded: bool, part: Part) -> Course
+        ensures moves { followed result self.new ≡ words.by_rule rule succeeded (are_masters part) self.old }
+        ensures jumps { JumpsFrom part result }
     {
         match rule {
             Rule::ReturnOk => self.success = true,
@@ -95,14 +96,6 @@ impl Progress {
             }
             Rule::Continue => self.checked = self.checked || succeeded,
         }
-    }
-
-    /// Obeys a rule: whether there is success, and how the chain goes on.
-    pub(crate) fn obey(&mut self, rule: Rule, succeeded: bool, part: Part) -> Course
-        ensures moves { followed result self.new ≡ words.by_rule rule succeeded (are_masters part) self.old }
-        ensures jumps { JumpsFrom part result }
-    {
-        self.set_success(rule, succeeded);
         match rule {
             Rule::ReturnOk | Rule::ReturnFail | Rule::Return => Course::Ends(self.end()),
             Rule::ContinueOk | Rule::ContinueFail | Rule::Continue => {

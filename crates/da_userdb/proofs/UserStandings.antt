@@ -12,7 +12,7 @@ use Rattle.da_chain.proofs.Given.{answer_from-none, answer_from-own, answer_from
 use Rattle.da_chain.proofs.Tests.{three_parts, both_true}
 use Rattle.da_userdb.specs.UserChain.{are_valid_from, are_valid_userdbs, is_valid_userdb, no_user_progress, user_end, user_move, user_continued, user_walk, user_chain}
 use Rattle.da_userdb.specs.UserPlaces.{walk_from, told_at, Stands, IsFrom, IsWithin, GoesOnWith}
-use Rattle.da_userdb.specs.UserCursors.{IsFresh, IsPlaceAfter, TellsChain, IsAsk, IsAsking, with_answer_to, TakesAnswer}
+use Rattle.da_userdb.specs.UserCursors.{IsFresh, IsPlaceAfter, IsAlong, TellsChain, IsAsk, IsAsking, with_answer_to, TakesAnswer}
 use Rattle.da_userdb.specs.declared.cursor.UserCursor.{UserCursor}
 use Rattle.da_userdb.specs.declared.database.Lookup.{Lookup}
 use Rattle.da_userdb.specs.declared.database.Userdb.{Userdb}
@@ -183,3 +183,13 @@ takes dbs a before after index given copied at same equal kept goes stands from 
       lookup_is = kept ∙ s.lookup_is;
       place = subst (λ l. IsPlaceAfter dbs lookup l after.place after.progress) (sym (ap (λ chain. with_answer_to chain a answers) told)) taken;
     }
+
+-- ---- one answer after the other
+
+-- a cursor that tells a question asks
+pub asks_as_told : (dbs : List Userdb) (cursor : UserCursor) (chain : UserChain) → IsAlong dbs cursor → TellsChain dbs cursor chain → IsAsk chain → IsAsking dbs cursor
+asks_as_told dbs cursor chain a told ask = (a.0, a.1, a.2, subst IsAsk (told a.0 a.1 a.2) ask)
+
+-- it stays one of the chain
+pub along_after : (dbs : List Userdb) (a : Answer) (before after : UserCursor) → IsAlong dbs before → TakesAnswer dbs a before after → IsAlong dbs after
+along_after dbs a before after s takes = (s.0, with_answer_to (user_chain dbs s.0 s.1) a s.1, takes s.0 s.1 s.2)
