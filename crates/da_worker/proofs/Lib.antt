@@ -1,3 +1,4 @@
 pub mod PieceLemmas
 pub mod TurnLemmas
 pub mod Running
+pub mod Complete

@@ -1,5 +1,5 @@
 -- What a worker does with an input: its lines, its queries, and how its run may end.
-use Rattle.std.specs.Prelude.{◌≡◌, ◌<◌, ◌≤◌, ℕ, suc, ◌^◌, Bool, ◌||◌, not, ◌⊎◌, List, [], ◌∷◌, length, take, Option, Some, None, if◌then◌else◌, is_some}
+use Rattle.std.specs.Prelude.{◌≡◌, ◌<◌, ◌≤◌, ℕ, suc, ◌^◌, ⊤, Bool, ◌||◌, not, ◌⊎◌, List, [], ◌∷◌, length, take, Option, Some, None, if◌then◌else◌, is_some}
 use Rattle.std.specs.List.{AllByRecursion}
 use Rattle.std.specs.Io.KnownBytes.{Consumes, Appends, IsAtEnd}
 use Rattle.da_base.specs.Words.{Bytes, is_empty}
@@ -87,3 +87,16 @@ pub record Ran (pass users : List Bytes) (told_before told_now : Told) (left_bef
   pub are_turns : AllByRecursion (IsTurn pass users told_before.held) turns
   pub files : ReadsFiles told_before told_now (reads_of turns)
   pub ends : Ends read written turns left_now reads_before reads_now writes_before writes_now status
+
+-- ---- a run without a fault
+
+-- each line of the input is a query and ended by LF, and it isn't too long
+pub record IsGood (input : Bytes) : Type 0 where
+  pub are_queries : first_bad_at_end input ≡ None
+  pub short : length input ≤ 2 ^ 30
+
+-- the whole input was answered, or memory was wanted
+abbrev pub IsAnswered : WorkerStatus → Type 0
+IsAnswered Done = ⊤
+IsAnswered NoMemory = ⊤
+IsAnswered _ = ⊥

@@ -56,12 +56,7 @@ fn path_at(paths: &[Text], db: u32) -> Option<&[u8]>
     Some(path)
 }
 
-fn path_for<'a>(
-    pass: &'a [Text],
-    users: &'a [Text],
-    kind: QueryKind,
-    db: u32,
-) -> Option<&'a [u8]>
+fn path_for<'a>(pass: &'a [Text], users: &'a [Text], kind: QueryKind, db: u32) -> Option<&'a [u8]>
     ensures { option_copied result ≡ path_for pass.now users.now kind db }
 {
     match kind {

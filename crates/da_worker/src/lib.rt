@@ -5,9 +5,14 @@
 
 mod answering;
 mod fill;
+mod laws;
 mod output;
 mod passwd;
 mod worker;
 
+pub use laws::a_good_input_is_answered;
 pub use passwd::row;
 pub use worker::{WorkerStatus, answer_all};
+
+#[cfg(test)]
+mod tests;

@@ -156,11 +156,7 @@ fn user_fields(alloc: Global, line: &[u8]) -> Result<Fields, AllocError>
     merge(alloc, &account, &none, &part, &none)
 }
 
-fn answer_of_line(
-    alloc: Global,
-    kind: QueryKind,
-    line: Option<&[u8]>,
-) -> Result<Answer, AllocError>
+fn answer_of_line(alloc: Global, kind: QueryKind, line: Option<&[u8]>) -> Result<Answer, AllocError>
     ensures { IfOk result (λ answer. answer ≡ answer_of_line kind (option_copied line.entry)) }
 {
     let Some(line) = line else {

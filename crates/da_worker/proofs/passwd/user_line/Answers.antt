@@ -15,11 +15,11 @@ lines-preserved c =
 pub returns-then-is_line_of-2 : goal.returns-then-is_line_of-2
 returns-then-is_line_of-2 c =
     sym (user_line_last c.args.user.now c.lines.rest.now c.in_default.ensures.split
-        ∙ ap (λ b. cond b (Some c.lines.rest.now) None) (sym c.is_line_of-2.ensures ∙ c.if-is_line_of-2.true))
+    ∙ ap (λ b. cond b (Some c.lines.rest.now) None) (sym c.is_line_of-2.ensures ∙ c.if-is_line_of-2.true))
     ∙ c.lines.invariant
 
 pub returns-else-is_line_of-2 : goal.returns-else-is_line_of-2
 returns-else-is_line_of-2 c =
     sym (user_line_last c.args.user.now c.lines.rest.now c.in_default.ensures.split
-        ∙ ap (λ b. cond b (Some c.lines.rest.now) None) (sym c.is_line_of-2.ensures ∙ c.if-is_line_of-2.false))
+    ∙ ap (λ b. cond b (Some c.lines.rest.now) None) (sym c.is_line_of-2.ensures ∙ c.if-is_line_of-2.false))
     ∙ c.lines.invariant
