@@ -327,6 +327,57 @@ const RIGHT: &[&str] = &[
     "[[passdb]]\ndriver = \"passwd-file\"\ndeny = true\ndefault_fields = [\"a==%%\", \"b=%u%n%d%s%r%l\"]",
 ];
 
+/// The settings of `examples/settings/every-key.toml`, without its comments.
+const EVERY_KEY: &str = "server_pid = 4711\n\
+host = \"auth.example.org\"\n\
+mechanisms = [\"SCRAM-SHA-256\", \"CRAM-MD5\", \"PLAIN\", \"LOGIN\"]\n\
+username_chars = \"abcdefghijklmnopqrstuvwxyzABCDEFGHIJKLMNOPQRSTUVWXYZ0123456789.-_@+\"\n\
+username_lower = true\n\
+master_separator = \"*\"\n\
+failure_delay = 2000\n\
+cache_size = 1000\n\
+cache_ttl = 3_600_000\n\
+cache_negative_ttl = 60_000\n\
+query_limit = 60_000\n\
+workers = 4\n\
+worker_command = [\"bin/dauth\", \"worker\", \"examples/settings/every-key.toml\"]\n\
+client_socket = \"run/client.sock\"\n\
+master_socket = \"run/master.sock\"\n\
+history_entries = 500_000\n\
+history_bytes = 268_435_456\n\
+connections = 1000\n\
+[[passdb]]\n\
+driver = \"passwd-file\"\n\
+args = \"examples/settings/denied\"\n\
+deny = true\n\
+[[passdb]]\n\
+driver = \"passwd-file\"\n\
+args = \"examples/settings/masters\"\n\
+master = true\n\
+result_success = \"continue\"\n\
+result_failure = \"return-fail\"\n\
+result_internalfail = \"return-fail\"\n\
+[[passdb]]\n\
+driver = \"passwd-file\"\n\
+args = \"examples/settings/users\"\n\
+skip = \"never\"\n\
+default_scheme = \"SSHA256\"\n\
+username_filter = \"*@example.org\"\n\
+default_fields = [\"mail=maildir:/var/mail/%d/%n\"]\n\
+override_fields = [\"nologin=\"]\n\
+[[userdb]]\n\
+driver = \"prefetch\"\n\
+skip = \"never\"\n\
+[[userdb]]\n\
+driver = \"passwd-file\"\n\
+args = \"examples/settings/users\"\n\
+skip = \"found\"\n\
+result_success = \"return-ok\"\n\
+result_failure = \"continue\"\n\
+result_internalfail = \"continue\"\n\
+default_fields = [\"uid=5000\", \"gid=5000\"]\n\
+override_fields = [\"home=/home/%d/%n\"]\n";
+
 fn is_told(alloc: Global, faulty: &Faulty) -> bool {
     match read(alloc, faulty.0.as_bytes()) {
         Err(ConfigFault::Bad(fault)) => {
@@ -353,5 +404,19 @@ fn each_range_has_its_ends(rt: HostRuntime) {
     let alloc = rt.alloc();
     for text in RIGHT {
         assert!(rt; read(alloc, text.as_bytes()).is_ok());
+    }
+}
+
+#[test]
+fn the_example_with_every_key_is_read(rt: HostRuntime) {
+    let alloc = rt.alloc();
+    match read(alloc, EVERY_KEY.as_bytes()) {
+        Ok(settings) => {
+            assert_eq!(rt; settings.mechanisms.all().len(), 4);
+            assert_eq!(rt; settings.passdb.all().len(), 3);
+            assert_eq!(rt; settings.userdb.all().len(), 2);
+            assert_eq!(rt; settings.workers, 4);
+        }
+        Err(_) => assert!(rt; false),
     }
 }
