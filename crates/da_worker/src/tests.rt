@@ -152,10 +152,10 @@ fn each_end_has_its_status(rt: HostRuntime) -> Result<(), Fail> {
     Ok(())
 }
 
-// The status for an input whose second line is a query of so many bytes.
-fn status_at(alloc: Global, length: usize) -> Result<WorkerStatus, AllocError> {
+// The status for an input whose second line is a query of nine bytes and so many more.
+fn status_at(alloc: Global, more: usize) -> Result<WorkerStatus, AllocError> {
     let mut input = bytes(alloc, b"PASS\t1\t1\talice\nPASS\t2\t1\t")?;
-    let mut name = vec![in alloc; b'x'; length - 9]?;
+    let mut name = vec![in alloc; b'x'; more]?;
     input.append(&mut name)?;
     input.push(b'\n')?;
     Ok(run(alloc, USERS, &input, SOUND)?.0)
@@ -164,8 +164,8 @@ fn status_at(alloc: Global, length: usize) -> Result<WorkerStatus, AllocError> {
 #[test]
 fn a_line_has_at_most_8192_bytes(rt: HostRuntime) -> Result<(), Fail> {
     let alloc = rt.alloc();
-    assert!(rt; status_at(alloc, 8192)? == WorkerStatus::Done);
-    assert!(rt; status_at(alloc, 8193)? == WorkerStatus::BadInput { line: 2 });
+    assert!(rt; status_at(alloc, 8183)? == WorkerStatus::Done);
+    assert!(rt; status_at(alloc, 8184)? == WorkerStatus::BadInput { line: 2 });
     Ok(())
 }
 
