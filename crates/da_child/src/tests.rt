@@ -58,7 +58,8 @@ fn the_program_is_told_the_name_and_the_password(rt: HostRuntime) -> Result<(), 
     let mut runner = runner(alloc, 1, b"")?;
     check(alloc, &mut runner, b"program", b"alice", b"pw")?;
     let told = runner.past().first().is_some_and(|run| {
-        run.program.bytes() == b"program".as_slice() && run.input.bytes() == b"alice\0pw\0\0".as_slice()
+        run.program.bytes() == b"program".as_slice()
+            && run.input.bytes() == b"alice\0pw\0\0".as_slice()
     });
     assert!(rt; told);
     Ok(())

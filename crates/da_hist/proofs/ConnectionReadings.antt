@@ -187,7 +187,7 @@ module _ (settings : Settings) (e : Entry) (g : List Entry) where
   unfolding after same_now same_after
   connections_after =
       let s : IsSound settings e.moment now e.input (λ x m. TablesStand now x) _ h =
-          sound_heard settings e.moment now e.input (λ x m. TablesStand now x) (heard_stands settings e.moment now now e.input e.hits) e.input refl (all_same now) in
+      sound_heard settings e.moment now e.input (λ x m. TablesStand now x) (heard_stands settings e.moment now now e.input e.hits) e.input refl (all_same now) in
       moved_gives settings e.moment now e.input e.hits same_now same_after moved_same h refl s.mover
 
   opened_same : (input : Input) → opened_by input now ≡ opened_by input (state settings g)

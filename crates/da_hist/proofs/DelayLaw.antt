@@ -57,7 +57,7 @@ failures_wait settings e g n r user authz temp disabled reason told here failed 
     let due = replies_are_due settings e g n told in
     let same : due.0 ≡ r = same_Some due.0 r (sym due.1 ∙ here) in
     let in_time = decided_in_time e.moment (reply_delay settings r) r.decided
-        (subst (λ (s : Request). passes_option (λ m. nat_le m e.moment) (due_moment settings s) ≡ true) same due.4) in
+    (subst (λ (s : Request). passes_option (λ m. nat_le m e.moment) (due_moment settings s) ≡ true) same due.4) in
     (in_time.0, in_time.1, subst (λ span. later in_time.0 span ≤ e.moment) (failure_delays settings r user authz temp disabled reason failed delays) in_time.2)
 
 -- ---- nothing is left

@@ -167,9 +167,10 @@ module _ (settings : Settings) (moment : ℕ) (before : State) (entered : Input)
             later (c, x, s) =
                 let same_row : c ≡ a = same_Some c a (sym x ∙ is) in
                 let recorded : b.answer ≡ Some (u.answer, u.recorded) = ap (λ (y : Asked). y.answer) (same_Some b u.query (sym at ∙ u.stands)) ∙ u.is_recorded in
-                let still : a.answer ≡ Some (u.answer, u.recorded) = sym (ap (λ (y : Asked). y.answer) same_row) ∙ s.answer (u.answer, u.recorded) recorded in
-                (ap (λ (y : Key). y.db) (keys_equal (key_of q) (key_of b.question) k) ∙ sym (ap (λ (y : Question). y.db) s.question) ∙ ap (λ (y : Asked). y.question.db) same_row,
-                told ∙ ap (option_map (λ (y : Answer × ℕ). y.0)) (recorded ∙ sym still ∙ e))
+                let still : a.answer ≡ Some (u.answer, u.recorded) = sym (ap (λ (y : Asked). y.answer) same_row) ∙ s.answer (u.answer, u.recorded) recorded in (
+                  ap (λ (y : Key). y.db) (keys_equal (key_of q) (key_of b.question) k) ∙ sym (ap (λ (y : Question). y.db) s.question) ∙ ap (λ (y : Asked). y.question.db) same_row,
+                  told ∙ ap (option_map (λ (y : Answer × ℕ). y.0)) (recorded ∙ sym still ∙ e),
+                )
 
     hit_distinct : (st : State) (mover number : ℕ) (done rest : List ℕ) (a : Asked) (p : Answer × ℕ) → nth st.queries number ≡ Some a → a.answer ≡ Some p → done ++ number ∷ rest ≡ hits →
         TablesStand origin (hit_with settings mover number a p.0 st) → DistinctNow st (Some mover) done → DistinctNow (hit_with settings mover number a p.0 st) (Some mover) (done ++ number ∷ [])
@@ -245,10 +246,10 @@ entry_distinct settings st e asked hits p =
     let h : Heard = heard settings e.moment e.input before in
     let all : AllAsked settings before.requests before.queries = due_all_asked settings e.moment st asked in
     let s : IsSound settings e.moment before e.input (λ x m. TablesStand before x) _ h =
-        sound_heard settings e.moment before e.input (λ x m. TablesStand before x) (heard_stands settings e.moment before before e.input e.hits) e.input refl (all_same before) in
+    sound_heard settings e.moment before e.input (λ x m. TablesStand before x) (heard_stands settings e.moment before before e.input e.hits) e.input refl (all_same before) in
     let t : TablesStand st h.state = tables_later st before h.state (due_stand settings e.moment st) s.fact in
     let d : IsSound settings e.moment before e.input (λ x m. AllDistinct x.requests) _ h =
-        sound_heard settings e.moment before e.input (λ x m. AllDistinct x.requests) (heard_distinct settings e.moment before e.input e.hits all) e.input refl (due_distinct settings e.moment st p) in
+    sound_heard settings e.moment before e.input (λ x m. AllDistinct x.requests) (heard_distinct settings e.moment before e.input e.hits all) e.input refl (due_distinct settings e.moment st p) in
     moved_gives settings e.moment before e.input e.hits _ _ (moved_distinct settings e.moment before e.input e.hits all st h.state t) h
     (record { tables = t; all = d.fact; mover = to_come before h all t h.mover s.mover hits }) s.mover
   where

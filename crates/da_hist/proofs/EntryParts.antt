@@ -175,7 +175,7 @@ module _ (settings : Settings) (moment : ℕ) (before : State) (entered : Input)
       go (r, is, w) = record {
         fact = k.texts conn id random text m r is w p;
         mover = still_undecided (with_text text) (λ r. refl) before.requests (request_number before conn id)
-        (ap (passes_option is_undecided) is ∙ and_first (is_undecided r) _ w);
+            (ap (passes_option is_undecided) is ∙ and_first (is_undecided r) _ w);
       }
 
   sound_cancels : (n : ℕ) → P before None → IsSound (cancels settings n before)
@@ -262,7 +262,6 @@ module _ (settings : Settings) (moment : ℕ) (before : State) (entered : Input)
 
 module _ (settings : Settings) (moment : ℕ) (before : State) (entered : Input) (hits : List ℕ) (Q : State → Option ℕ → List ℕ → Type 0) (R : State → Option ℕ → Type 0)
     (k : MovedParts settings moment before entered hits Q R) where
-
   record IsMoved (mover : ℕ) (done : List ℕ) (st : State) : Type 0 where
     pub fact : Q st (Some mover) done
     pub undecided : IsUndecidedAt st.requests mover

@@ -294,7 +294,7 @@ one_entry settings e st hits k =
     let before : State = with_due_replied settings e.moment st in
     let h : Heard = heard settings e.moment e.input before in
     let s : IsSound settings e.moment before e.input (λ x m. TablesStand before x) _ h =
-        sound_heard settings e.moment before e.input (λ x m. TablesStand before x) (heard_stands settings e.moment before before e.input e.hits) e.input refl (all_same before) in
+    sound_heard settings e.moment before e.input (λ x m. TablesStand before x) (heard_stands settings e.moment before before e.input e.hits) e.input refl (all_same before) in
     entry_tests settings e st (tables_later st before h.state (due_stand settings e.moment st) s.fact) (mover_known settings e.moment st _ e.hits hits) k
 
 all_tests : (settings : Settings) (h : List Entry) → IsLegal settings h → (k : ℕ) → tests_at (state settings h).queries k ≡ uses_heard settings h k

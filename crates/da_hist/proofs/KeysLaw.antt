@@ -364,9 +364,11 @@ module _ (settings : Settings) (moment : ℕ) (before hs : State) (entered : Inp
                   let same : c ≡ a = same_Some c a (sym x ∙ is) in
                   let question : a.question ≡ b.question = sym (ap (λ (y : Asked). y.question) same) ∙ s.question ∙ i.question in
                   let recorded : a.answer ≡ Some (recorded_answer a.question.kind given, moment) =
-                      sym (ap (λ (y : Asked). y.answer) same) ∙ s.answer _ i.is_recorded ∙ ap (λ (q : Question). Some (recorded_answer q.kind given, moment)) (sym question) in
-                  record { tables = record { connections = r.tables.connections; requests = r.tables.requests; queries = r.tables.queries };
-                    fit = kept_fit st query a (recorded_answer a.question.kind given) is recorded r.fit }
+                  sym (ap (λ (y : Asked). y.answer) same) ∙ s.answer _ i.is_recorded ∙ ap (λ (q : Question). Some (recorded_answer q.kind given, moment)) (sym question) in
+                  record {
+                    tables = record { connections = r.tables.connections; requests = r.tables.requests; queries = r.tables.queries };
+                    fit = kept_fit st query a (recorded_answer a.question.kind given) is recorded r.fit;
+                  }
 
   moved_cache : MovedParts settings moment before entered hits cache_now fit_now
   moved_cache = record {
@@ -389,14 +391,20 @@ entry_fit settings st e hits f =
     let before : State = with_due_replied settings e.moment st in
     let h : Heard = heard settings e.moment e.input before in
     let s : IsSound settings e.moment before e.input (λ x m. TablesStand before x) _ h =
-        sound_heard settings e.moment before e.input (λ x m. TablesStand before x) (heard_stands settings e.moment before before e.input e.hits) e.input refl (all_same before) in
+    sound_heard settings e.moment before e.input (λ x m. TablesStand before x) (heard_stands settings e.moment before before e.input e.hits) e.input refl (all_same before) in
     let c : IsSound settings e.moment before e.input (λ x m. SameCache before x) _ h =
-        sound_heard settings e.moment before e.input (λ x m. SameCache before x) (heard_cache settings e.moment before e.input) e.input refl (untouched settings e.moment before e.input) in
+    sound_heard settings e.moment before e.input (λ x m. SameCache before x) (heard_cache settings e.moment before e.input) e.input refl (untouched settings e.moment before e.input) in
     let t : TablesStand st h.state = tables_later st before h.state (due_stand settings e.moment st) s.fact in
     let fit : IsFit settings h.state = same_fit settings st h.state t.queries c.fact.recordings c.fact.keys f in
     let cached : AllCached h.state e.hits = cached_later st h.state t.queries c.fact.keys e.hits (mover_cached settings e.moment st _ e.hits hits) in
     let now : CacheNow settings e.moment before h.state e.input e.hits fit cached _ h.state = record {
-      tables = all_same h.state; recordings = refl; fit = fit.keys.fit; distinct = fit.keys.are_distinct; within = λ k x. x; all = λ k x. x } in
+      tables = all_same h.state;
+      recordings = refl;
+      fit = fit.keys.fit;
+      distinct = fit.keys.are_distinct;
+      within = λ k x. x;
+      all = λ k x. x;
+    } in
     (moved_gives settings e.moment before e.input e.hits _ _
     (moved_cache settings e.moment before h.state e.input e.hits fit cached
     (λ query given a l is run. subst (λ (i : Input). IsRecorded (heard settings e.moment i before).state.queries query a (recorded_answer a.question.kind given) e.moment) (sym l)

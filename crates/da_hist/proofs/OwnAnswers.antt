@@ -272,7 +272,7 @@ module _ (settings : Settings) (e : Entry) (origin : State) where
     unfolding after
     entry_answers asked n =
         let s : IsSound settings e.moment before e.input (λ st m. Grew st) (heard_grew asked) h = sound_heard settings e.moment before e.input (λ st m. Grew st) (heard_grew asked) e.input refl
-            (λ m. sym (ap (λ xs. answers_at before.requests m ++ xs) (none_fresh m) ∙ append-nil (answers_at before.requests m))) in
+        (λ m. sym (ap (λ xs. answers_at before.requests m ++ xs) (none_fresh m) ∙ append-nil (answers_at before.requests m))) in
         moved_gives settings e.moment before e.input e.hits HitsNow hits_after moved_hits h (record { tables = stand; answers = λ m. sym (nothing h.mover m) }) s.mover n
         ∙ ap (λ (xs : Answers). xs ++ if_moved h.mover n (flat_map (answer_under origin.queries) e.hits)) (s.fact n ∙ ap (λ (xs : Answers). answers_at before.requests n ++ xs) (fresh_after n))
       where
@@ -295,7 +295,7 @@ one_entry settings e st asked hits n =
     let before : State = with_due_replied settings e.moment st in
     let h : Heard = heard settings e.moment e.input before in
     let s : IsSound settings e.moment before e.input (λ x m. TablesStand before x) _ h =
-        sound_heard settings e.moment before e.input (λ x m. TablesStand before x) (heard_stands settings e.moment before before e.input e.hits) e.input refl (all_same before) in
+    sound_heard settings e.moment before e.input (λ x m. TablesStand before x) (heard_stands settings e.moment before before e.input e.hits) e.input refl (all_same before) in
     entry_answers settings e st (tables_later st before h.state (due_stand settings e.moment st) s.fact) (mover_known settings e.moment st _ e.hits hits) (due_all_asked settings e.moment st asked) n
     ∙ ap (λ (xs : Answers). xs ++ option_or_else (told_query e.input) [] (own_answer st.queries (after settings st e).queries n) ++ if_moved h.mover n (flat_map (answer_under st.queries) e.hits))
     (map_listed answers_of (replied_if_due settings e.moment) (due_answers settings e st e.moment) st.requests n)

@@ -87,10 +87,15 @@ module _ (settings : Settings) (e : Entry) (origin : State) where
   both_answered query given a g is run p = record {
     taken = came_changed (λ (x : Asked). x.taken) KeepsQuestion NewlyTaken origin.queries keeps keeps_on taken_moves (answered_by settings e.moment (nth before.requests a.request) (recorded_answer a.question.kind given)) before.queries query (λ x. refl) (λ x m at d. inl d) p.taken;
     answered = came_changed (λ (x : Asked). x.answer) KeepsQuestion NewlyAnswered origin.queries keeps keeps_on answered_moves (answered_by settings e.moment (nth before.requests a.request) (recorded_answer a.question.kind given)) before.queries query (λ x. refl)
-        (λ x y at d. inr (given, g, ap (passes_option is_running) is ∙ run,
-        ap (λ (z : Asked). recorded_answer z.question.kind given) (same_Some x a (sym at ∙ is)) ∙ ap (λ (z : Answer × ℕ). z.0) (same_Some _ y d),
-        sym (ap (λ (z : Answer × ℕ). z.1) (same_Some _ y d)))) p.answered;
+        (λ x y at d. inr (
+          given,
+          g,
+          ap (passes_option is_running) is ∙ run,
+          ap (λ (z : Asked). recorded_answer z.question.kind given) (same_Some x a (sym at ∙ is)) ∙ ap (λ (z : Answer × ℕ). z.0) (same_Some _ y d),
+          sym (ap (λ (z : Answer × ℕ). z.1) (same_Some _ y d)),
+        )) p.answered;
   }
+
   both_longer : (qs : List Asked) (new : Asked) → new.taken ≡ None → new.answer ≡ None → BothCame qs → BothCame (qs ++ new ∷ [])
   both_longer qs new t w p = record {
     taken = came_longer (λ (a : Asked). a.taken) KeepsQuestion NewlyTaken origin.queries keeps keeps_on taken_moves qs new t p.taken;

@@ -183,9 +183,10 @@ module _ (settings : Settings) (e : Entry) (origin : State) where
           (λ y d. inl d)
         where
           held : is_due settings e.moment r ≡ true → (s : Request) → s ≡ r → (s.replied ≡ None) × (s.is_cancelled ≡ false)
-          held due s same =
-              (ap (λ (y : Request). y.replied) same ∙ none_there r.replied (not_true (is_some r.replied) (and_second (is_some r.decided && not r.is_cancelled) _ (and_first (is_held r) _ due))),
-              ap (λ (y : Request). y.is_cancelled) same ∙ not_true r.is_cancelled (and_second (is_some r.decided) _ (and_first (is_some r.decided && not r.is_cancelled) _ (and_first (is_held r) _ due))))
+          held due s same = (
+            ap (λ (y : Request). y.replied) same ∙ none_there r.replied (not_true (is_some r.replied) (and_second (is_some r.decided && not r.is_cancelled) _ (and_first (is_held r) _ due))),
+            ap (λ (y : Request). y.is_cancelled) same ∙ not_true r.is_cancelled (and_second (is_some r.decided) _ (and_first (is_some r.decided && not r.is_cancelled) _ (and_first (is_held r) _ due))),
+          )
 
   entry_came : BothCame (after settings origin e).requests
   entry_came = an_entry_gives settings origin e came_now came_after heard_came moved_came (record { tables = due_stand settings e.moment origin; came = due_came })
