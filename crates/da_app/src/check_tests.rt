@@ -7,6 +7,7 @@ use std::alloc::{AllocError, Global};
 use std::test::Fail;
 
 /// A check of one file, `settings`, whose output fails at this call.
+#[derive(Drop)]
 struct Case {
     words: &'static [&'static str],
     settings: &'static [u8],
