@@ -19,9 +19,9 @@ use Rattle.da_app.specs.declared.status.Status.{Status}
 use Rattle.da_app.specs.declared.status.Status.TheVariants.{Done, BadScript, LongScript, NoMemory, ReadFault, WriteFault}
 use Rattle.da_app.specs.Events.{event_of}
 use Rattle.da_app.specs.Print.{printed, printed_from}
-use Rattle.da_app.specs.Output.{Begins}
+use Rattle.da_worker.specs.Output.{Begins}
 use Rattle.da_app.specs.Script.{script_cut, with_event, events_from, bad_from, or_bad, first_bad, output_from, output}
-use Rattle.da_app.specs.Fill.{FeedsBytes, ReadsSome, ReadsOne}
+use Rattle.da_worker.specs.Fill.{FeedsBytes, ReadsSome, ReadsOne}
 use Rattle.da_app.specs.Play.{PlaysEvent, PlaysFront, Ends, Ran}
 use Rattle.da_app.proofs.EventLemmas.{event_placed}
 
@@ -233,7 +233,7 @@ module _ {s : Settings} {left_before left_now before now : Option Bytes} {cutter
       }
 
   begins : Begins run.written (output s run.taken)
-  begins = record { rest = output_from s server.history number cutter.ready; whole = output_is }
+  begins = record { rest = output_from s server.history number cutter.ready; is_whole = output_is }
 
   pub ends_done : (left_end : Option Bytes) (r0 r1 w0 w1 : ℕ) → cutter.ready ≡ [] → cutter.is_long ≡ false → cutter.rest ≡ [] → Keeps left_now left_end → IsAtEnd left_end
       → Ran s left_before left_end before now r0 r1 w0 w1 Done
@@ -299,7 +299,7 @@ module _ {s : Settings} {left_before left_now before now : Option Bytes} {cutter
       let front = plays.front.front in
       let more = output_from s (history_after server.history plays.event.0 plays.event.1) (number + 1) rest in
       let same : printed_reply ≡ front ++ plays.front.begins.rest =
-      ap (λ t. printed number (reply t server.history plays.event.0 plays.event.1)) (sym run.settings) ∙ plays.front.begins.whole in
+      ap (λ t. printed number (reply t server.history plays.event.0 plays.event.1)) (sym run.settings) ∙ plays.front.begins.is_whole in
       record {
         read = run.taken;
         written = run.written ++ front;
@@ -309,7 +309,7 @@ module _ {s : Settings} {left_before left_now before now : Option Bytes} {cutter
           let rose = plays.front.rose in omega arith,
           record {
             rest = plays.front.begins.rest ++ more;
-            whole =
+            is_whole =
                 output_is ∙ ap (λ lines. run.written ++ output_from s server.history number lines) first
                 ∙ ap (λ text. run.written ++ text) (output_from-event s server.history number line rest plays.event plays.spelled ∙ ap (λ text. text ++ more) same)
                 ∙ ap (λ text. run.written ++ text) (append_assoc front plays.front.begins.rest more)
@@ -334,7 +334,7 @@ module _ {s : Settings} {left_before left_now before now : Option Bytes} {cutter
         ends =
             record {
               rest = output_from s server.history number (after_feed cutter some.bytes).ready;
-              whole = ap (output_from s [] 1) lines ∙ run.output (after_feed cutter some.bytes).ready;
+              is_whole = ap (output_from s [] 1) lines ∙ run.output (after_feed cutter some.bytes).ready;
             };
       }
 

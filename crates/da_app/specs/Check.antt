@@ -11,7 +11,7 @@ use Rattle.da_hist.specs.declared.settings.Settings.{Settings}
 use Rattle.da_config.specs.SettingsText.{settings_of}
 use Rattle.da_app.specs.declared.status.Status.{Status}
 use Rattle.da_app.specs.declared.status.Status.TheVariants.{Done, Usage, NoSettings, NoMemory, WriteFault, BadSettings}
-use Rattle.da_app.specs.Output.{WrittenFront}
+use Rattle.da_worker.specs.Output.{WrittenFront}
 use Rattle.da_app.specs.SettingsFile.{HoldsSettings}
 use Rattle.da_app.specs.Drive.{IsDone}
 

@@ -5,7 +5,7 @@ use Rattle.da_base.specs.Words.{Bytes}
 use Rattle.da_outside.specs.Causes.{Rose}
 use Rattle.da_app.specs.declared.gather.Gathered.{Gathered}
 use Rattle.da_app.specs.declared.gather.Gathered.TheVariants.{Whole, Long, ReadFault, NoMemory}
-use Rattle.da_app.specs.Fill.{ReadsSome}
+use Rattle.da_worker.specs.Fill.{ReadsSome}
 
 -- more bytes than max were read
 pub record ReadsMore (before now : Option Bytes) (max : ℕ) : Type 0 where

@@ -3,8 +3,6 @@ pub mod Settings
 pub mod Events
 pub mod Print
 pub mod Script
-pub mod Output
-pub mod Fill
 pub mod Play
 pub mod Drive
 pub mod Statuses

@@ -13,7 +13,7 @@ use Rattle.da_app.specs.declared.status.Status.{Status}
 use Rattle.da_app.specs.declared.status.Status.TheVariants.{Done, BadScript, LongScript, NoMemory, ReadFault, WriteFault}
 use Rattle.da_app.specs.Events.{event_of}
 use Rattle.da_app.specs.Print.{printed}
-use Rattle.da_app.specs.Output.{Begins, WrittenFront}
+use Rattle.da_worker.specs.Output.{Begins, WrittenFront}
 use Rattle.da_app.specs.Script.{first_bad, first_bad_at_end, output}
 
 -- ---- one line

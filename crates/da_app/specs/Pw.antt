@@ -12,8 +12,8 @@ use Rattle.da_schemes.specs.Scheme.{scheme_named}
 use Rattle.da_schemes.specs.Made.{made, IsMade}
 use Rattle.da_app.specs.declared.status.Status.{Status}
 use Rattle.da_app.specs.declared.status.Status.TheVariants.{Done, Usage, BadInput, NoMemory, ReadFault, WriteFault}
-use Rattle.da_app.specs.Output.{WrittenFront}
-use Rattle.da_app.specs.Fill.{ReadsSome}
+use Rattle.da_worker.specs.Output.{WrittenFront}
+use Rattle.da_worker.specs.Fill.{ReadsSome}
 use Rattle.da_app.specs.Drive.{IsDone}
 
 -- ---- words

@@ -4,13 +4,13 @@ ghost use Rattle.std.specs.Prelude.{◌≡◌, map, string_bytes, Some, IfOk};
 ghost use Rattle.da_app.specs.Words.{check_path};
 ghost use Rattle.da_app.specs.Check.{counts_line, Tells, Checks, CompletesCheck};
 
-use crate::output::write_all;
 use crate::print::push_number;
 use crate::settings_file::read_settings;
 use crate::status::Status;
 use crate::words::path_of_check;
 use da_hist::Settings;
 use da_outside::{Files, Sink};
+use da_worker::write_all;
 use std::alloc::{AllocError, Global};
 
 /// `check PATH`: reads the settings from the file at PATH, and writes how many password databases and user databases

@@ -4,13 +4,12 @@ ghost use Rattle.std.specs.Prelude.{◌≡◌, ◌+◌, ◌≤◌, length};
 ghost use Rattle.da_app.specs.Play.{Plays, Ran};
 
 use crate::events::read_event;
-use crate::fill::{Fill, read_into};
-use crate::output::write_all;
 use crate::print::print_outputs;
 use crate::status::Status;
 use da_hist::{Plain, Settings};
 use da_outside::{Sink, Source};
 use da_tabline::Lines;
+use da_worker::{Fill, read_into, write_all};
 use std::alloc::Global;
 
 /// The most bytes that a line of a script may have.

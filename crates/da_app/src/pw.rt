@@ -6,11 +6,11 @@ ghost use Rattle.base64.specs.GeneralPurpose.{IsBytes};
 ghost use Rattle.da_app.specs.Pw.{is_no_nul, is_password, IsPasswordLine, IsNoPasswordLine, pw_scheme, scheme_after, stored_line, Pws, CompletesPw};
 
 use crate::gather::{Gathered, read_up_to};
-use crate::output::write_all;
 use crate::status::Status;
 use da_outside::{Rand, Sink, Source};
 use da_schemes::{Scheme, make};
 use da_tabline::split_at_byte;
+use da_worker::write_all;
 use std::alloc::{AllocError, Global};
 
 /// The most bytes of a password.

@@ -10,7 +10,7 @@ const CHUNK: usize = 4096;
 
 /// How a read ended.
 #[derive(Clone, Copy, Drop)]
-pub(crate) enum Fill {
+pub enum Fill {
     /// So many bytes were read and fed, and a line that is too long came among them or not.
     Fed { count: usize, is_long: bool },
     /// The source ended after a whole line.
@@ -44,7 +44,7 @@ fn feed(lines: &mut Lines, bytes: &[u8]) -> Fill
 
 /// Reads some bytes and feeds them. At most `budget` bytes are fed; where that is 0, one byte is asked for, to tell the
 /// source's end from more.
-pub(crate) fn read_into<S: Source>(source: &mut S, lines: &mut Lines, budget: usize) -> Fill
+pub fn read_into<S: Source>(source: &mut S, lines: &mut Lines, budget: usize) -> Fill
     requires { lines.old.is_long ≡ false }
     ensures { Fills (S.left source.old) (S.left source.new) lines.old lines.new budget (S.faults source.old) (S.faults source.new) result }
 {

@@ -5,7 +5,7 @@ ghost use Rattle.da_worker.specs.Output.{Writes};
 use da_outside::{Failed, Sink};
 
 /// Writes the whole text. An error is a fault of the sink, which then took a front of the text.
-pub(crate) fn write_all<K: Sink>(sink: &mut K, text: &[u8]) -> Result<(), Failed>
+pub fn write_all<K: Sink>(sink: &mut K, text: &[u8]) -> Result<(), Failed>
     ensures { Writes text.now (K.contents sink.old) (K.contents sink.new) (K.faults sink.old) (K.faults sink.new) result }
 {
     let mut rest = text;

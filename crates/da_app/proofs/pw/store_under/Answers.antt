@@ -3,7 +3,7 @@ use Rattle.std.specs.Io.KnownBytes.{Appends}
 use Rattle.std.proofs.KnownBytes.{Keeps-refl}
 use Rattle.da_base.specs.Words.{Bytes}
 use Rattle.da_schemes.proofs.MadeTexts.{IsMade-made}
-use Rattle.da_app.specs.Output.{WrittenFront}
+use Rattle.da_worker.specs.Output.{WrittenFront}
 use Rattle.da_app.specs.Pw.{IsPasswordLine, IsNoPasswordLine}
 use Rattle.da_app.proofs.PwLemmas.{off_long, unwritten}
 use Rattle.da_app.proofs.pw.store_under.Goals as goal
