@@ -1,11 +1,10 @@
 -- Lemmas on the read of a settings file and on its check, by the status.
-use Rattle.std.proofs.Common.{◌≡◌, ℕ, ◌<◌, List, length, Option, Some, None, Err, sym, ap, ◌∙◌, subst}
+use Rattle.std.proofs.Common.{◌≡◌, ◌<◌, length, Option, Some, None, Err, sym, ap, ◌∙◌, subst}
 use Rattle.std.specs.Prelude.{IfSome}
 use Rattle.std.specs.Io.KnownBytes.{Keeps}
 use Rattle.std.proofs.lemmas.Bool.{lt-ltb}
 use Rattle.da_base.specs.Words.{Bytes}
-use Rattle.da_outside.specs.Files.{File, bytes_at}
-use Rattle.da_outside.specs.declared.files.FileRead.{FileRead}
+use Rattle.da_outside.specs.Files.{bytes_at}
 use Rattle.da_config.specs.declared.fault.Fault.{Fault}
 use Rattle.da_config.specs.declared.fault.FaultKind.TheVariants.{Range}
 use Rattle.da_config.specs.declared.fault.ConfigFault.{ConfigFault}
@@ -15,7 +14,8 @@ use Rattle.da_config.specs.SettingsText.{settings_of, fault_at_all}
 use Rattle.da_app.specs.declared.status.Status.{Status}
 use Rattle.da_app.specs.declared.status.Status.TheVariants.{Done, Usage, BadScript, LongScript, BadInput, NoSettings, NoListen, NoMemory, ReadFault, WriteFault, Full, BadSettings}
 use Rattle.da_app.specs.SettingsFile.{ReadsSettings}
-use Rattle.da_app.specs.Check.{CheckOutside, ChecksWith, Checks, IsGoodFile, CompletesCheck}
+use Rattle.da_worker.specs.Turns.{Told}
+use Rattle.da_app.specs.Check.{CheckOutside, files_told, ChecksWith, Checks, IsGoodFile, CompletesCheck}
 use Rattle.da_app.specs.Drive.{IsTooLong, fault_status, IsDone}
 use Rattle.da_app.proofs.DriveLemmas.{IfSome-map}
 
@@ -26,42 +26,42 @@ unfolding settings_of
 long_settings text fault long is = rw (lt-ltb 1048576 (length text) long) (ap (λ (f : Fault). Err f) (sym is))
 
 -- a file that is too long
-pub reads_long : (path : Bytes) (held : Option (List File)) (past_before past_now : Option (List FileRead)) (faults_before faults_now : ℕ) (status : Status)
-    → IsTooLong status → IfSome held (λ files. 1048576 < length (bytes_at files path))
-    → ReadsSettings path held past_before past_now faults_before faults_now (Err status)
-reads_long path held p0 p1 f0 f1 (BadSettings fault) is long =
-    IfSome-map held (λ files. 1048576 < length (bytes_at files path)) (λ files. settings_of (bytes_at files path) ≡ Err fault)
+pub reads_long : (path : Bytes) (before now : Told) (status : Status)
+    → IsTooLong status → IfSome before.held (λ files. 1048576 < length (bytes_at files path))
+    → ReadsSettings path before now (Err status)
+reads_long path before now (BadSettings fault) is long =
+    IfSome-map before.held (λ files. 1048576 < length (bytes_at files path)) (λ files. settings_of (bytes_at files path) ≡ Err fault)
     (λ files more. long_settings (bytes_at files path) fault more is) long
-reads_long path held p0 p1 f0 f1 NoMemory is long = tt
-reads_long path held p0 p1 f0 f1 Done is long = absurd is
-reads_long path held p0 p1 f0 f1 Usage is long = absurd is
-reads_long path held p0 p1 f0 f1 (BadScript line) is long = absurd is
-reads_long path held p0 p1 f0 f1 LongScript is long = absurd is
-reads_long path held p0 p1 f0 f1 BadInput is long = absurd is
-reads_long path held p0 p1 f0 f1 NoSettings is long = absurd is
-reads_long path held p0 p1 f0 f1 NoListen is long = absurd is
-reads_long path held p0 p1 f0 f1 ReadFault is long = absurd is
-reads_long path held p0 p1 f0 f1 WriteFault is long = absurd is
-reads_long path held p0 p1 f0 f1 Full is long = absurd is
+reads_long path before now NoMemory is long = tt
+reads_long path before now Done is long = absurd is
+reads_long path before now Usage is long = absurd is
+reads_long path before now (BadScript line) is long = absurd is
+reads_long path before now LongScript is long = absurd is
+reads_long path before now BadInput is long = absurd is
+reads_long path before now NoSettings is long = absurd is
+reads_long path before now NoListen is long = absurd is
+reads_long path before now ReadFault is long = absurd is
+reads_long path before now WriteFault is long = absurd is
+reads_long path before now Full is long = absurd is
 
 -- a text that gave no settings
-pub reads_fault : (path : Bytes) (held : Option (List File)) (past_before past_now : Option (List FileRead)) (faults_before faults_now : ℕ) (text : Bytes)
-    (fault : ConfigFault) (status : Status) → IfSome held (λ files. text ≡ bytes_at files path) → IsRead (settings_of text) (Err fault)
-    → status ≡ fault_status fault → ReadsSettings path held past_before past_now faults_before faults_now (Err status)
-reads_fault path held p0 p1 f0 f1 text (Bad fault) status is bad same =
-    subst (λ (s : Status). ReadsSettings path held p0 p1 f0 f1 (Err s)) (sym same)
-    (IfSome-map held (λ files. text ≡ bytes_at files path) (λ files. settings_of (bytes_at files path) ≡ Err fault)
+pub reads_fault : (path : Bytes) (before now : Told) (text : Bytes)
+    (fault : ConfigFault) (status : Status) → IfSome before.held (λ files. text ≡ bytes_at files path) → IsRead (settings_of text) (Err fault)
+    → status ≡ fault_status fault → ReadsSettings path before now (Err status)
+reads_fault path before now text (Bad fault) status is bad same =
+    subst (λ (s : Status). ReadsSettings path before now (Err s)) (sym same)
+    (IfSome-map before.held (λ files. text ≡ bytes_at files path) (λ files. settings_of (bytes_at files path) ≡ Err fault)
     (λ files e. ap settings_of (sym e) ∙ bad) is)
-reads_fault path held p0 p1 f0 f1 text TextNoMemory status is bad same =
-    subst (λ (s : Status). ReadsSettings path held p0 p1 f0 f1 (Err s)) (sym same) tt
+reads_fault path before now text TextNoMemory status is bad same =
+    subst (λ (s : Status). ReadsSettings path before now (Err s)) (sym same) tt
 
 -- ---- the check
 
 -- no settings were read, and nothing was written
 pub checks_unread : (path : Bytes) (before now : CheckOutside) (status : Status)
-    → ReadsSettings path before.held before.past now.past before.file_faults now.file_faults (Err status)
+    → ReadsSettings path (files_told before) (files_told now) (Err status)
     → Keeps before.contents now.contents → Checks (Some path) before now status
-checks_unread path before now NoSettings read same = (read.0, read.1, same)
+checks_unread path before now NoSettings read same = (read, same)
 checks_unread path before now (BadSettings fault) read same = (read, same)
 checks_unread path before now NoMemory read same = same
 checks_unread path before now Done read same = absurd read
@@ -96,7 +96,7 @@ completes_file : (path : Bytes) (before now : CheckOutside) (status : Status) �
 completes_file path before now Done how good = tt
 completes_file path before now NoMemory how good = tt
 completes_file path before now WriteFault how good = good.sink_sound how.tells.rose
-completes_file path before now NoSettings how good = good.file_sound how.0
+completes_file path before now NoSettings how good = good.file_sound how.0.0
 completes_file path before now (BadSettings fault) how good =
     let bad = subst (λ h. IfSome h (λ files. settings_of (bytes_at files path) ≡ Err fault)) good.held how.0 in
     let clash = sym good.is_settings ∙ bad in

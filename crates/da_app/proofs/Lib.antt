@@ -4,3 +4,4 @@ pub mod Complete
 pub mod DriveLemmas
 pub mod CheckLemmas
 pub mod PwLemmas
+pub mod WorkerLemmas

@@ -1,18 +1,18 @@
 -- What `run_check` does, by its words and its file.
-use Rattle.std.specs.Prelude.{◌≡◌, ⊤, ℕ, List, [], ◌∷◌, ◌++◌, length, Option, Some, None, Ok, Err, IfSome, codes, decimal}
+use Rattle.std.specs.Prelude.{◌≡◌, ⊤, ℕ, List, ◌++◌, length, Option, Some, None, Ok, Err, IfSome, codes, decimal}
 use Rattle.std.specs.Io.KnownBytes.{Keeps, Appends}
 use Rattle.da_base.specs.Words.{Bytes}
 use Rattle.da_outside.specs.Causes.{Rose}
 use Rattle.da_outside.specs.Files.{File, bytes_at}
-use Rattle.da_outside.specs.Past.{Stays, Gains}
+use Rattle.da_outside.specs.Past.{Stays}
 use Rattle.da_outside.specs.declared.files.FileRead.{FileRead}
-use Rattle.da_outside.specs.declared.faults.Got.TheVariants.{Fault as GotFault}
 use Rattle.da_hist.specs.declared.settings.Settings.{Settings}
 use Rattle.da_config.specs.SettingsText.{settings_of}
 use Rattle.da_app.specs.declared.status.Status.{Status}
 use Rattle.da_app.specs.declared.status.Status.TheVariants.{Done, Usage, NoSettings, NoMemory, WriteFault, BadSettings}
 use Rattle.da_worker.specs.Output.{WrittenFront}
-use Rattle.da_app.specs.SettingsFile.{HoldsSettings}
+use Rattle.da_worker.specs.Turns.{Told}
+use Rattle.da_app.specs.SettingsFile.{HoldsSettings, PathFails}
 use Rattle.da_app.specs.Drive.{IsDone}
 
 -- how many databases the settings have: those for passwords, then those for users
@@ -35,10 +35,14 @@ pub record CheckOutside : Type 0 where
   pub file_faults : ℕ
   pub write_faults : ℕ
 
+-- what its files tell
+abbrev pub files_told : CheckOutside → Told
+files_told outside = record { held = outside.held; past = outside.past; faults = outside.file_faults }
+
 -- the file's text is settings, and their counts were told
 pub record ChecksWith (path : Bytes) (before now : CheckOutside) (status : Status) : Type 0 where
   pub settings : Settings
-  pub holds : HoldsSettings before.held path settings
+  pub holds : HoldsSettings path (files_told before) (files_told now) settings
   pub tells : Tells settings before.contents now.contents before.write_faults now.write_faults status
 
 -- By the path and the status. Nothing else comes.
@@ -53,8 +57,7 @@ Checks None before now Usage = Stays before.past now.past × Keeps before.conten
 Checks None before now _ = ⊥
 Checks (Some path) before now Usage = ⊥
 Checks (Some path) before now NoSettings =
-    Rose before.file_faults now.file_faults × Gains before.past now.past (record { path = path; got = GotFault } ∷ [])
-    × Keeps before.contents now.contents
+    PathFails path (files_told before) (files_told now) × Keeps before.contents now.contents
 Checks (Some path) before now (BadSettings fault) =
     IfSome before.held (λ files. settings_of (bytes_at files path) ≡ Err fault) × Keeps before.contents now.contents
 Checks (Some path) before now NoMemory = Keeps before.contents now.contents

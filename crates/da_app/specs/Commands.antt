@@ -2,15 +2,16 @@
 use Rattle.std.specs.Prelude.{List, [], ◌∷◌, find, Option, None, bytes_eq, codes}
 use Rattle.da_base.specs.Words.{Bytes}
 use Rattle.da_app.specs.declared.commands.Command.{Command}
-use Rattle.da_app.specs.declared.commands.Command.TheVariants.{Drive, Check, Pw}
+use Rattle.da_app.specs.declared.commands.Command.TheVariants.{Drive, Check, Worker, Pw}
 
 abbrev pub command_name : Command → Bytes
 command_name Drive = codes "drive"
 command_name Check = codes "check"
+command_name Worker = codes "worker"
 command_name Pw = codes "pw"
 
 abbrev pub commands : List Command
-commands = Drive ∷ Check ∷ Pw ∷ []
+commands = Drive ∷ Check ∷ Worker ∷ Pw ∷ []
 
 -- the command of a name; None exactly where none has that name
 abbrev pub command_named : Bytes → Option Command

@@ -11,3 +11,4 @@ pub mod SettingsFile
 pub mod Check
 pub mod Gather
 pub mod Pw
+pub mod Worker

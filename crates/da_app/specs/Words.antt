@@ -21,3 +21,6 @@ drive_path = command_path (codes "drive")
 
 abbrev pub check_path : List Bytes → Option Bytes
 check_path = command_path (codes "check")
+
+abbrev pub worker_path : List Bytes → Option Bytes
+worker_path = command_path (codes "worker")

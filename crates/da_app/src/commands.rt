@@ -10,11 +10,13 @@ pub enum Command {
     Drive,
     /// Reads settings, and tells how many databases they have.
     Check,
+    /// Answers queries by passwd-files.
+    Worker,
     /// Makes the stored form of a password.
     Pw,
 }
 
-const COMMANDS: [Command; 3] = [Command::Drive, Command::Check, Command::Pw];
+const COMMANDS: [Command; 4] = [Command::Drive, Command::Check, Command::Worker, Command::Pw];
 
 impl Command {
     fn name(self) -> &'static [u8]
@@ -23,6 +25,7 @@ impl Command {
         match self {
             Command::Drive => b"drive",
             Command::Check => b"check",
+            Command::Worker => b"worker",
             Command::Pw => b"pw",
         }
     }

@@ -1,7 +1,8 @@
 //! The commands of the program, over anything that they may read from and write to. `run_drive` plays a script of events
 //! and writes the server's replies; its contract says what it read, what it wrote and what caused its end, for every
 //! status (`specs/Drive.antt`). `run_check` reads settings and writes how many databases they have (`specs/Check.antt`).
-//! `run_pw` makes the stored form of a password (`specs/Pw.antt`).
+//! `run_worker` answers queries by the settings' passwd-files (`specs/Worker.antt`). `run_pw` makes the stored form of a
+//! password (`specs/Pw.antt`).
 #![tactic(auto)]
 
 mod check;
@@ -16,6 +17,7 @@ mod settings;
 mod settings_file;
 mod status;
 mod words;
+mod worker;
 
 pub use check::run_check;
 pub use commands::Command;
@@ -24,6 +26,7 @@ pub use drive::run_drive;
 pub use pw::run_pw;
 pub use status::Status;
 pub use words::command;
+pub use worker::run_worker;
 
 #[cfg(test)]
 mod check_tests;
@@ -31,3 +34,5 @@ mod check_tests;
 mod pw_tests;
 #[cfg(test)]
 mod tests;
+#[cfg(test)]
+mod worker_tests;

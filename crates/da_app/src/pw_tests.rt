@@ -169,9 +169,10 @@ fn what_is_stored_is_read_as_its_scheme_and_matches(rt: HostRuntime) -> Result<(
 #[test]
 fn the_first_word_names_the_command(rt: HostRuntime) -> Result<(), Fail> {
     let alloc = rt.alloc();
-    let table: [(&[&str], Option<Command>); 7] = [
+    let table: [(&[&str], Option<Command>); 8] = [
         (&["drive", "settings"], Some(Command::Drive)),
         (&["check"], Some(Command::Check)),
+        (&["worker", "settings"], Some(Command::Worker)),
         (&["pw"], Some(Command::Pw)),
         (&["pw", "", "-"], Some(Command::Pw)),
         (&["PW", "SHA"], None),

@@ -16,7 +16,10 @@ pub fn read_settings<F: Files>(
     path: &[u8],
     files: &mut F,
 ) -> Result<Settings, Status>
-    ensures { ReadsSettings path.now (F.held files.old) (F.past files.old) (F.past files.new) (F.faults files.old) (F.faults files.new) result }
+    ensures { ReadsSettings path.now
+        (record { held = F.held files.old; past = F.past files.old; faults = F.faults files.old })
+        (record { held = F.held files.new; past = F.past files.new; faults = F.faults files.new })
+        result }
 {
     let text = match files.read(alloc, path, SETTINGS_MAX) {
         Ok(text) => text,

@@ -2,7 +2,7 @@
 
 ghost use Rattle.std.specs.Prelude.{◌≡◌, map, option_copied, string_bytes};
 ghost use Rattle.da_app.specs.Commands.{command_of};
-ghost use Rattle.da_app.specs.Words.{is_value, path_of, command_path, drive_path, check_path};
+ghost use Rattle.da_app.specs.Words.{is_value, path_of, command_path, drive_path, check_path, worker_path};
 
 use crate::commands::Command;
 
@@ -37,6 +37,13 @@ pub fn path_of_check(words: &[String]) -> Option<&[u8]>
     ensures { option_copied result ≡ check_path (map string_bytes words.now) }
 {
     path_of_command(b"check", words)
+}
+
+/// The path of `worker PATH`. `None` exactly where the words are off this form.
+pub fn path_of_worker(words: &[String]) -> Option<&[u8]>
+    ensures { option_copied result ≡ worker_path (map string_bytes words.now) }
+{
+    path_of_command(b"worker", words)
 }
 
 fn path_of_command<'a>(name: &[u8], words: &'a [String]) -> Option<&'a [u8]>

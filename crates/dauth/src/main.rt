@@ -6,7 +6,7 @@ mod adapters;
 mod random;
 
 use adapters::{Disk, Input, Output};
-use da_app::{Command, Status, command, run_check, run_drive, run_pw};
+use da_app::{Command, Status, command, run_check, run_drive, run_pw, run_worker};
 use random::Random;
 use std::alloc::{AllocError, Global};
 use std::env;
@@ -49,6 +49,7 @@ fn run(rt: &HostRuntime, words: &[String]) -> io::Result<Status> {
     let mut files = Disk::new(rt);
     match command(words) {
         Some(Command::Check) => Ok(run_check(alloc, words, &mut files, &mut output)),
+        Some(Command::Worker) => Ok(run_worker(alloc, words, &mut files, &mut input, &mut output)),
         Some(Command::Pw) => {
             let mut rand = Random::new(rt)?;
             Ok(run_pw(alloc, words, &mut input, &mut output, &mut rand))

@@ -1,7 +1,8 @@
-use Rattle.std.proofs.Common.{refl, sym, ap, ◌∙◌, subst, Err}
+use Rattle.std.proofs.Common.{refl, sym, ap, ◌∙◌, subst, arith, Err}
 use Rattle.da_base.specs.Words.{Bytes}
 use Rattle.da_config.specs.Reading.{IsRead}
 use Rattle.da_config.specs.SettingsText.{settings_of}
+use Rattle.da_worker.specs.Turns.{Told}
 use Rattle.da_app.proofs.CheckLemmas.{reads_long, reads_fault}
 use Rattle.da_app.proofs.settings_file.read_settings.Goals as goal
 
@@ -12,18 +13,22 @@ returns-in-Err-Failed g c =
 
 pub returns-in-Err-Long : goal.returns-in-Err-Long
 returns-in-Err-Long g c =
-    reads_long c.args.path.now (g.F.Files.held c.args.files.now) (g.F.Files.past c.args.files.now) (g.F.Files.past c.read.new.self) (g.F.Files.faults c.args.files.now) (g.F.Files.faults c.read.new.self)
-    c.long_text.result c.long_text.ensures (rw c.in-Err-Long.field-0-is at c.in-Err-Long.ensures.gives)
+    let before : Told = record { held = g.F.Files.held c.args.files.now; past = g.F.Files.past c.args.files.now; faults = g.F.Files.faults c.args.files.now } in
+    let now : Told = record { held = g.F.Files.held c.read.new.self; past = g.F.Files.past c.read.new.self; faults = g.F.Files.faults c.read.new.self } in
+    reads_long c.args.path.now before now c.long_text.result c.long_text.ensures (rw c.in-Err-Long.field-0-is at c.in-Err-Long.ensures.gives)
 
 pub returns-in-Ok-read : goal.returns-in-Ok-read
 returns-in-Ok-read g c = record {
   text = c.in-Ok.text.items;
   is_text = c.in-Ok.ensures.gives.1;
   is_settings = ap settings_of (sym c.deref.ensures.value) ∙ c.in-Ok-read.ensures;
+  reads = record { held = c.in-Ok.ensures.held; past = c.in-Ok.ensures.past; faults = omega (arith, c.in-Ok.ensures.cause.later) };
 }
 
 pub returns : goal.returns
 returns g c =
+    let before : Told = record { held = g.F.Files.held c.args.files.now; past = g.F.Files.past c.args.files.now; faults = g.F.Files.faults c.args.files.now } in
+    let now : Told = record { held = g.F.Files.held c.read.new.self; past = g.F.Files.past c.read.new.self; faults = g.F.Files.faults c.read.new.self } in
     let faulty : IsRead (settings_of c.in-Ok.text.items) (Err c.in-Err.fault) = subst (λ (t : Bytes). IsRead (settings_of t) (Err c.in-Err.fault)) c.deref.ensures.value c.in-Err.ensures in
-    reads_fault c.args.path.now (g.F.Files.held c.args.files.now) (g.F.Files.past c.args.files.now) (g.F.Files.past c.read.new.self) (g.F.Files.faults c.args.files.now) (g.F.Files.faults c.read.new.self)
+    reads_fault c.args.path.now before now
     c.in-Ok.text.items c.in-Err.fault c.status_of_fault.result c.in-Ok.ensures.gives.1 faulty c.status_of_fault.ensures
