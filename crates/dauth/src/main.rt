@@ -3,7 +3,11 @@
 #![tactic(auto)]
 
 mod adapters;
+mod programs;
 mod random;
+#[cfg(test)]
+mod tests;
+mod workers;
 
 use adapters::{Disk, Input, Output};
 use da_app::{Command, Status, command, run_check, run_drive, run_pw, run_worker};
