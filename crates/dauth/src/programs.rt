@@ -20,8 +20,8 @@ const NO_STATUS: u32 = 256;
 /// The longest reply that is kept, in bytes.
 const LONGEST_REPLY: usize = 8194;
 
-/// The programs of the system. A run fails where the path is no text, the shell can't be started, or its pipes or its end
-/// fail; then no child is left.
+/// The programs of the system. The input is written before the reply is read, so it has to fit a pipe. A run fails where
+/// the path is no text, the shell can't be started, or its pipes or its end fail; then no child is left.
 #[derive(Drop)]
 pub struct Programs<'a, R> {
     rt: &'a R,
