@@ -2,5 +2,7 @@
 #![tactic(auto)]
 
 mod key;
+mod keys;
 
-pub use key::Key;
+pub use key::{Key, is_same_kind};
+pub use keys::{has_key, key_first, with_key, without_key};

@@ -27,7 +27,7 @@ pub fn challenge(
 }
 
 /// Two lower-case hexadecimal digits for each byte.
-pub(crate) fn hex_digits(alloc: Global, bytes: &[u8]) -> Result<Vec<u8>, AllocError>
+pub fn hex_digits(alloc: Global, bytes: &[u8]) -> Result<Vec<u8>, AllocError>
     ensures { IfOk result (λ text. text.items ≡ hex bytes.now) }
 {
     Ok(hex::encode(alloc, bytes)?.into_bytes())

@@ -4,7 +4,8 @@ ghost use Rattle.std.specs.Prelude.{◌≡◌, ◌<◌, ◌++◌, ◌∷◌, [],
 ghost use Rattle.da_base.specs.Words.{hex, hex_digit};
 ghost use Rattle.da_tabline.specs.Escapes.{spelled};
 ghost use Rattle.da_tabline.specs.Spelling.{more_fields};
-ghost use Rattle.da_msgs.specs.Replies.{greeting, version_line, server_line, mechanism_line, mechanism_name, mechanism_flags};
+ghost use Rattle.da_msgs.specs.Replies as words;
+ghost use Rattle.da_msgs.specs.Replies.{version_line, server_line, mechanism_line, mechanism_flags};
 
 use crate::kinds::{ConnKind, Mech};
 use crate::printing::begin_reply;
@@ -24,10 +25,26 @@ pub fn handshake(
     number: u32,
     cookie: &[u8; 16],
 ) -> Result<Vec<Text>, AllocError>
-    ensures { IfOk result (λ lines. lines.items ≡ greeting kind mechs.now pid number (hex cookie.now)) }
+    ensures { IfOk result (λ lines. lines.items ≡ words.greeting kind mechs.now pid number (hex cookie.now)) }
+{
+    let digits = hex_text(alloc, cookie)?;
+    greeting(alloc, kind, mechs, pid, number, &digits)
+}
+
+/// The lines that open a connection whose cookie has these hexadecimal digits.
+#[tactic(auto, unfolding(crate::specs::Replies::greeting))]
+pub fn greeting(
+    alloc: Global,
+    kind: ConnKind,
+    mechs: &[Mech],
+    pid: u32,
+    number: u32,
+    digits: &[u8],
+) -> Result<Vec<Text>, AllocError>
+    ensures { IfOk result (λ lines. lines.items ≡ words.greeting kind mechs.now pid number digits.now) }
 {
     match kind {
-        ConnKind::Client => client_lines(alloc, mechs, pid, number, cookie),
+        ConnKind::Client => client_lines(alloc, mechs, pid, number, digits),
         ConnKind::Master => master_lines(alloc, pid),
     }
 }
@@ -37,10 +54,10 @@ fn client_lines(
     mechs: &[Mech],
     pid: u32,
     number: u32,
-    cookie: &[u8; 16],
+    digits: &[u8],
 ) -> Result<Vec<Text>, AllocError>
     ensures { IfOk result (λ lines. lines.items ≡ version_line ∷ (map mechanism_line mechs.now
-        ++ (server_line pid ∷ spelled (codes "CUID" ∷ decimal number ∷ []) ∷ spelled (codes "COOKIE" ∷ hex cookie.now ∷ []) ∷ codes "DONE" ∷ []))) }
+        ++ (server_line pid ∷ spelled (codes "CUID" ∷ decimal number ∷ []) ∷ spelled (codes "COOKIE" ∷ digits.now ∷ []) ∷ codes "DONE" ∷ []))) }
 {
     let mut lines = Vec::new(alloc);
     lines.push(first_line(alloc)?)?;
@@ -49,7 +66,7 @@ fn client_lines(
     }
     lines.push(number_line(alloc, b"SPID", pid)?)?;
     lines.push(number_line(alloc, b"CUID", number)?)?;
-    lines.push(cookie_line(alloc, cookie)?)?;
+    lines.push(cookie_line(alloc, digits)?)?;
     lines.push(Text::new(escape(alloc, b"DONE")?))?;
     Ok(lines)
 }
@@ -82,20 +99,9 @@ fn line_of(alloc: Global, mech: Mech) -> Result<Text, AllocError>
     ensures { IfOk result (λ line. line ≡ mechanism_line mech) }
 {
     let mut line = escape(alloc, b"MECH")?;
-    push_field(&mut line, name_of(mech))?;
+    push_field(&mut line, mech.name())?;
     push_flags(&mut line, mech)?;
     Ok(Text::new(line))
-}
-
-fn name_of(mech: Mech) -> &'static [u8]
-    ensures { result.now ≡ mechanism_name mech }
-{
-    match mech {
-        Mech::Plain => b"PLAIN",
-        Mech::Login => b"LOGIN",
-        Mech::CramMd5 => b"CRAM-MD5",
-        Mech::ScramSha256 => b"SCRAM-SHA-256",
-    }
 }
 
 fn push_flags(line: &mut Vec<u8>, mech: Mech) -> Result<(), AllocError>
@@ -111,11 +117,11 @@ fn push_flags(line: &mut Vec<u8>, mech: Mech) -> Result<(), AllocError>
     }
 }
 
-fn cookie_line(alloc: Global, cookie: &[u8; 16]) -> Result<Text, AllocError>
-    ensures { IfOk result (λ line. line ≡ spelled (codes "COOKIE" ∷ hex cookie.now ∷ [])) }
+fn cookie_line(alloc: Global, digits: &[u8]) -> Result<Text, AllocError>
+    ensures { IfOk result (λ line. line ≡ spelled (codes "COOKIE" ∷ digits.now ∷ [])) }
 {
     let mut line = escape(alloc, b"COOKIE")?;
-    push_field(&mut line, &hex_text(alloc, cookie)?)?;
+    push_field(&mut line, digits)?;
     Ok(Text::new(line))
 }
 

@@ -12,7 +12,7 @@ mod printing;
 mod reading;
 
 pub use client::{ClientMsg, Reply};
-pub use greetings::handshake;
+pub use greetings::{greeting, handshake};
 pub use kinds::{ConnKind, Mech};
 pub use laws::{
     a_client_line_is_read_as_it_spells, a_client_line_spells_one_message,

@@ -68,10 +68,15 @@ fitting_outcome db login checked (Failed why) = Internal
 unfoldable pub outcome : Passdb → Login → Bool → Answer → Outcome
 outcome db login checked answer = if fits (query_kind db) answer then fitting_outcome db login checked answer else Internal
 
--- whether a plaintext password decides the outcome, and then whether it matches. A deny database's answer has no outcome.
+-- whether a plaintext password decides the outcome of a stored password with fields. A deny database's answer has no outcome.
+abbrev pub is_decided_by_password : Passdb → Login → Bool → Bytes → Pairs → Bool
+is_decided_by_password db login checked stored fields =
+    fits (query_kind db) (Found stored fields) && is_plaintext_proof login.proof && not db.deny && not checked && is_let_in db login.vars fields
+
+-- whether a plaintext password decides the outcome, and then whether it matches
 unfoldable pub password_test : Passdb → Login → Bool → Answer → Option Bool
 password_test db login checked (Found stored fields) =
-    if fits (query_kind db) (Found stored fields) && is_plaintext_proof login.proof && not db.deny && not checked && is_let_in db login.vars fields
+    if is_decided_by_password db login checked stored fields
     then Some (is_success (outcome db login checked (Found stored fields)))
     else None
 password_test db login checked _ = None
@@ -83,7 +88,7 @@ compared_with _ _ = None
 
 unfoldable pub password_check : Passdb → Login → Bool → Answer → Option (StoredPassword × Bytes)
 password_check db login checked (Found stored fields) =
-    if fits (query_kind db) (Found stored fields) && is_plaintext_proof login.proof && not db.deny && not checked && is_let_in db login.vars fields
+    if is_decided_by_password db login checked stored fields
     then compared_with login.proof (stored_password db.default_scheme stored)
     else None
 password_check db login checked _ = None

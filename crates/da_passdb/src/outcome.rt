@@ -1,6 +1,7 @@
 // What comes of a password database's answer.
 
 ghost use Rattle.std.specs.Prelude.{◌≡◌, Bool, IfOk, IsTrue};
+ghost use Rattle.da_base.specs.Words.{Bytes};
 ghost use Rattle.da_fields.specs.declared.answer.Answer.TheVariants as answers;
 ghost use Rattle.da_passdb.specs.LoginChain.{is_valid_passdb};
 ghost use Rattle.da_passdb.specs.Outcomes as words;
@@ -215,5 +216,63 @@ pub(crate) fn judge(
         }
         Answer::Unknown => Ok(Judged::unread(Outcome::Unknown)),
         Answer::Internal(_) => Ok(Judged::unread(Outcome::Internal)),
+    }
+}
+
+// Whether a plaintext password decides what comes of a stored password with these fields. It is asked in the order of cost.
+fn is_decided_by_password(
+    alloc: Global,
+    db: &Passdb,
+    login: &Login,
+    checked: bool,
+    fields: &Fields,
+) -> Result<bool, AllocError>
+    requires { IsTrue (is_valid_passdb db.now) }
+    ensures { IfOk result (λ decided. (stored : Bytes) → decided ≡ words.is_decided_by_password db.now login.now checked stored fields.now) }
+{
+    let is_plaintext = matches!(login.proof, Proof::Plain(_));
+    if db.query_kind() == QueryKind::Check || !is_plaintext || db.deny || checked {
+        return Ok(false);
+    }
+    is_let_in(alloc, db, &login.vars, fields)
+}
+
+// What a plaintext password finds that decides what comes of a stored password.
+#[tactic(auto, unfolding(crate::specs::Outcomes::password_test, crate::specs::Outcomes::outcome))]
+fn test_found(
+    alloc: Global,
+    db: &Passdb,
+    login: &Login,
+    checked: bool,
+    stored: &Text,
+    fields: &Fields,
+) -> Result<Option<bool>, AllocError>
+    requires { IsTrue (is_valid_passdb db.now) }
+    ensures { IfOk result (λ test. test ≡ words.password_test db.now login.now checked (answers.Found stored.now fields.now)) }
+{
+    if !is_decided_by_password(alloc, db, login, checked, fields)? {
+        return Ok(None);
+    }
+    let stored = read_stored(alloc, db.default_scheme, stored)?;
+    let outcome = password_outcome(&login.proof, &stored, &[]);
+    Ok(Some(outcome == Outcome::Success))
+}
+
+/// Whether a plaintext password decides what comes of an answer, and then whether it matches. `checked` says whether a
+/// password has been checked before.
+#[tactic(auto, unfolding(crate::specs::Outcomes::password_test))]
+pub fn password_test(
+    alloc: Global,
+    db: &Passdb,
+    login: &Login,
+    checked: bool,
+    answer: &Answer,
+) -> Result<Option<bool>, AllocError>
+    requires { IsTrue (is_valid_passdb db.now) }
+    ensures { IfOk result (λ test. test ≡ words.password_test db.now login.now checked answer.now) }
+{
+    match answer {
+        Answer::Found { stored, fields } => test_found(alloc, db, login, checked, stored, fields),
+        _ => Ok(None),
     }
 }
