@@ -14,7 +14,9 @@ use Rattle.da_fields.specs.declared.outcome.Rule.{Rule}
 use Rattle.da_fields.specs.declared.outcome.Rule.TheVariants.{ReturnOk, ReturnFail, Return, ContinueOk, ContinueFail, Continue}
 use Rattle.da_fields.specs.declared.said.Said.{Said}
 use Rattle.da_fields.specs.declared.said.Said.TheVariants.{Challenge, Need, Proof as Proven, Bad}
-use Rattle.da_hist.specs.Attempts.{Attempt, mechanism_says, names, Opening, Settled, LogsIn, opening, opening_named, opening_said, opening_by, stage_from, failure, after_proof, with_credentials, after_verdict, after_chain, attempt_stage}
+use Rattle.da_hist.specs.Attempts.{Attempt, mechanism_says, names, opening, opening_named, opening_said, opening_by, stage_from, failure, after_proof, with_credentials, after_verdict, after_chain, attempt_stage}
+use Rattle.da_hist.specs.declared.openings.Opening.{Opening}
+use Rattle.da_hist.specs.declared.openings.Opening.TheVariants.{Settled, LogsIn}
 use Rattle.da_hist.specs.HitLaws.{HitsAreHits}
 use Rattle.da_hist.specs.Hits.{AreHits, hits_from, hit_for, with_hit, answer_of, is_usable, is_usable_answer, newest}
 use Rattle.da_hist.specs.Queries.{with_answer, key_of}

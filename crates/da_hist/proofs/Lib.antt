@@ -16,6 +16,9 @@ pub mod GrantStands
 pub mod ReplyDue
 pub mod DelayLaw
 pub mod Rows
+pub mod HitsInTurn
+pub mod AnsweredRows
+pub mod ValidDatabases
 pub mod EntryParts
 pub mod Standing
 pub mod OpenQueries
@@ -36,3 +39,7 @@ pub mod HeardTests
 pub mod RunEnds
 pub mod KnownHits
 pub mod Came
+pub mod DecodedMessages
+pub mod RowChanges
+pub mod FewRows
+pub mod Replays

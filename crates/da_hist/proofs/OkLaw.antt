@@ -7,7 +7,9 @@ use Rattle.da_base.specs.Words.{Bytes}
 use Rattle.da_fields.specs.FieldList.{Pairs}
 use Rattle.da_fields.specs.declared.said.Said.{Said}
 use Rattle.da_fields.specs.declared.said.Said.TheVariants.{Challenge, Need, Proof as Proven, Bad}
-use Rattle.da_hist.specs.Attempts.{Attempt, mechanism_says, names, Opening, Settled, LogsIn, opening_named, opening_said, opening_by, opening, failure, after_proof, with_credentials, after_verdict, after_chain, stage_from, attempt_stage, login_in}
+use Rattle.da_hist.specs.Attempts.{Attempt, mechanism_says, names, opening_named, opening_said, opening_by, opening, failure, after_proof, with_credentials, after_verdict, after_chain, stage_from, attempt_stage, login_in}
+use Rattle.da_hist.specs.declared.openings.Opening.{Opening}
+use Rattle.da_hist.specs.declared.openings.Opening.TheVariants.{Settled, LogsIn}
 use Rattle.da_hist.specs.Requests.{lookup_stage, body_stage, request_stage, decision_in, decision, login_of}
 use Rattle.da_hist.specs.SuccessLaws.{AllStrict, HasSuccess, OkHasItsAnswer}
 use Rattle.da_hist.specs.declared.settings.Settings.{Settings}

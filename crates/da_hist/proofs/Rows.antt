@@ -1,8 +1,8 @@
 -- Rows of tables, counted from 1: what a changed, mapped or longer table has at a place.
-use Rattle.std.proofs.Common.{◌≡◌, ◌≢◌, ◌⊎◌, inl, inr, refl, sym, ◌∙◌, ap, subst, Option, Some, None, List, [], ◌∷◌, ◌++◌, ℕ, zero, suc, Bool, true, false, map, length, slice_get, option_map, ◌||◌, ◌<◌, ◌+◌, ne_eqb, arith, cond, ◌==◌, eq-eqb, true≢false}
+use Rattle.std.proofs.Common.{◌≡◌, ◌≢◌, ◌⊎◌, inl, inr, refl, sym, ◌∙◌, ap, subst, Option, Some, None, List, [], ◌∷◌, ◌++◌, ℕ, zero, suc, Bool, true, false, map, length, get_or, set, slice_get, option_map, ◌||◌, ◌<◌, ◌+◌, ne_eqb, arith, cond, ◌==◌, eq-eqb, true≢false}
 use Rattle.std.specs.List.{list_any}
 use Rattle.std.proofs.lemmas.Bool.{eqb-true}
-use Rattle.std.proofs.lemmas.Option.{none-some, same_Some}
+use Rattle.std.proofs.lemmas.Option.{none-some, same_Some, slice_get_read}
 use Rattle.da_base.specs.Words.{nth, changed_at, changed_nth, passes_option, number_where, numbers_where, one_further, option_or_else}
 
 -- equal or not
@@ -234,3 +234,51 @@ module _ {A B : Type 0} (value : A → List B) where
       go : (n ≡ suc (length xs)) ⊎ (n ≢ suc (length xs)) → listed_at value (xs ++ x ∷ []) n ≡ listed_at value xs n
       go (inl d) = ap (listed_at value (xs ++ x ∷ [])) d ∙ ap (listed value) (nth-last xs x) ∙ none ∙ nothing (nth xs n) (λ y e. nth-past xs y (ap (nth xs) (sym d) ∙ e))
       go (inr d) = ap (listed value) (nth-other xs x n d)
+
+-- ---- the first row that passes, found row by row
+
+-- a number that is n further, where it isn't 0
+abbrev pub further_by : ℕ → ℕ → ℕ
+further_by n zero = zero
+further_by n (suc k) = suc (n + k)
+
+-- ---- a row that is changed in place
+
+-- a table without the row stays as it is
+pub changed-missing : {A : Type 0} (f : A → A) (xs : List A) (n : ℕ) → nth xs n ≡ None → xs ≡ changed_nth f xs n
+changed-missing f xs zero e = refl
+changed-missing {A} f xs (suc n) e = go xs n e
+  where
+    go : (xs : List A) (n : ℕ) → slice_get xs n ≡ None → xs ≡ changed_at f xs n
+    go [] n e = refl
+    go (x ∷ xs) zero e = absurd (none-some x (sym e))
+    go (x ∷ xs) (suc n) e = ap (λ ys. x ∷ ys) (go xs n e)
+
+-- what is written in the place of a row changes that row
+pub changed-set : {A : Type 0} (f : A → A) (xs : List A) (n i : ℕ) (x y : A) → n ≡ i + 1 → i < length xs → x ≡ get_or xs i x → y ≡ f x →
+    set xs i y ≡ changed_nth f xs n
+changed-set {A} f xs n i x y numbered within is changes =
+    go xs i (slice_get_read xs (length xs) i x refl within is) ∙ ap (λ (k : ℕ). changed_nth f xs k) (sym one_more)
+  where
+    go : (xs : List A) (i : ℕ) → slice_get xs i ≡ Some x → set xs i y ≡ changed_at f xs i
+    go [] i e = absurd (none-some x e)
+    go (z ∷ xs) zero e = ap (λ w. w ∷ xs) (changes ∙ ap f (sym (same_Some z x e)))
+    go (z ∷ xs) (suc i) e = ap (λ ys. z ∷ ys) (go xs i e)
+
+    one_more : n ≡ suc i
+    one_more = omega (arith, numbered)
+
+-- changes that agree on the row
+pub changed-alike : {A : Type 0} (f g : A → A) (xs : List A) (n : ℕ) (x : A) → nth xs n ≡ Some x → f x ≡ g x → changed_nth f xs n ≡ changed_nth g xs n
+changed-alike f g xs zero x e same = refl
+changed-alike {A} f g xs (suc n) x e same = go xs n e
+  where
+    go : (xs : List A) (n : ℕ) → slice_get xs n ≡ Some x → changed_at f xs n ≡ changed_at g xs n
+    go [] n e = refl
+    go (y ∷ ys) zero e = ap (λ w. w ∷ ys) (ap f (same_Some y x e) ∙ same ∙ ap g (sym (same_Some y x e)))
+    go (y ∷ ys) (suc n) e = ap (λ ws. y ∷ ws) (go ys n e)
+
+-- the same for a table with a name of its own
+pub changed-set-of : {A : Type 0} (f : A → A) (xs ys : List A) (n i : ℕ) (x y : A) → xs ≡ ys → n ≡ i + 1 → i < length xs → x ≡ get_or xs i x → y ≡ f x →
+    set xs i y ≡ changed_nth f ys n
+changed-set-of f xs ys n i x y same numbered within is changes = changed-set f xs n i x y numbered within is changes ∙ ap (λ zs. changed_nth f zs n) same

@@ -12,7 +12,8 @@ use Rattle.da_hist.proofs.Standing.{entry_stands, tables_later}
 use Rattle.da_base.specs.Words.{Bytes, nth, changed_nth, passes_option, option_or_else}
 use Rattle.da_fields.specs.declared.answer.Answer.{Answer}
 use Rattle.da_msgs.specs.Replies.{greeting}
-use Rattle.da_hist.specs.Effects.{Effects, effects, entry_lines, due_lines, own_lines, reply_to, reply_lines, challenge_lines, greeting_lines, opened_by, mover_if, due_requests}
+use Rattle.da_hist.specs.declared.effects.Effects.{Effects}
+use Rattle.da_hist.specs.Effects.{effects, entry_lines, due_lines, own_lines, reply_to, reply_lines, challenge_lines, greeting_lines, opened_by, mover_if, due_requests}
 use Rattle.da_hist.specs.History.{state, after, heard, with_due_replied, with_decision, replied_if_due}
 use Rattle.da_hist.specs.Hits.{hit_with}
 use Rattle.da_hist.specs.LinesHeard.{new_request, with_text}

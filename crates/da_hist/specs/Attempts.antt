@@ -24,6 +24,8 @@ use Rattle.da_passdb.specs.declared.chain.VerdictKind.TheVariants.{Ok as IsOkay,
 use Rattle.da_passdb.specs.declared.login.Login.{Login}
 use Rattle.da_passdb.specs.declared.login.Proof.{Proof}
 use Rattle.da_passdb.specs.declared.login.Proof.TheVariants.{Plain as Password, Cram, Scram}
+use Rattle.da_hist.specs.declared.openings.Opening.{Opening}
+use Rattle.da_hist.specs.declared.openings.Opening.TheVariants.{Settled, LogsIn}
 use Rattle.da_hist.specs.declared.settings.Settings.{Settings}
 use Rattle.da_hist.specs.declared.state.Decision.TheVariants.{Success, Failure}
 use Rattle.da_hist.specs.declared.state.Stage.{Stage}
@@ -104,11 +106,6 @@ names settings name authzid =
 
 abbrev pub fails_for : Bytes → Stage
 fails_for reason = Decided (Failure None false false false (Some reason))
-
--- an attempt either has a stage before any database is asked, or it is a login
-pub data Opening : Type 0 where
-  Settled : Stage → Opening
-  LogsIn : Mech → Login → Opening
 
 abbrev pub login_proof : Mech → Option Bytes → Proof
 login_proof ScramSha256 password = Scram

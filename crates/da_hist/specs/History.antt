@@ -1,5 +1,5 @@
 -- What a history says at its end. The newest entry stands first, so e ∷ g is the history g followed by the entry e.
-use Rattle.std.specs.Prelude.{ℕ, true, false, List, [], ◌∷◌, ◌++◌, map, Option, Some, None, if◌then◌else◌}
+use Rattle.std.specs.Prelude.{ℕ, Bool, true, false, List, [], ◌∷◌, ◌++◌, map, Option, Some, None, if◌then◌else◌}
 use Rattle.da_base.specs.Words.{hex, nth, option_or_else}
 use Rattle.da_fields.specs.declared.answer.Answer.{Answer}
 use Rattle.da_fields.specs.declared.answer.Answer.TheVariants.{Internal}
@@ -78,6 +78,11 @@ kept_for settings query answer (Some a) st = kept_in settings query a.question (
 abbrev pub keeps : Settings → State → Input → State → State
 keeps settings before (Answered query answer) st = if is_running_in before query then kept_for settings query answer (nth st.queries query) st else st
 keeps settings before _ st = st
+
+-- whether an input records an answer
+abbrev pub is_recorded : State → Input → Bool
+is_recorded before (Answered query answer) = is_running_in before query
+is_recorded before _ = false
 
 -- ---- the state
 

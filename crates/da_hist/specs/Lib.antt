@@ -3,6 +3,7 @@ pub mod UsualSettings
 pub mod Attempts
 pub mod Requests
 pub mod Tables
+pub mod InPlace
 pub mod Connections
 pub mod Grants
 pub mod LinesHeard
@@ -13,11 +14,8 @@ pub mod Effects
 pub mod Legal
 pub mod Play
 pub mod Checks
-pub mod FirstLoginTexts
-pub mod FirstLogin
-pub mod FirstLoginPlay
-pub mod FirstLoginRun
 pub mod Served
+pub mod Steps
 pub mod ReplyLaws
 pub mod DelayLaws
 pub mod StageLaws

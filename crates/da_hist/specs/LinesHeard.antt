@@ -7,6 +7,8 @@ use Rattle.da_msgs.specs.declared.client.ClientMsg.{ClientMsg}
 use Rattle.da_msgs.specs.declared.client.ClientMsg.TheVariants.{Version, Pid, Auth, Cont, Cancel, Other}
 use Rattle.da_msgs.specs.declared.master.MasterMsg.{MasterMsg}
 use Rattle.da_msgs.specs.declared.master.MasterMsg.TheVariants.{Version as MasterVersion, Request as MasterRequest, Other as MasterOther}
+use Rattle.da_hist.specs.declared.heard.Obeyed.{Obeyed}
+use Rattle.da_hist.specs.declared.heard.Obeyed.TheVariants.{Nothing, Closes, Client as ClientMessage, Master as MasterMessage}
 use Rattle.da_hist.specs.declared.settings.Settings.{Settings}
 use Rattle.da_hist.specs.declared.state.Body.{Body}
 use Rattle.da_hist.specs.declared.state.Body.TheVariants.{Authenticates, LooksUp}
@@ -103,3 +105,10 @@ abbrev pub line_on : Settings → ℕ → ℕ → Bytes → Bytes → Option Con
 line_on settings moment conn text random None st = moving_none st
 line_on settings moment conn text random (Some c) st =
     if c.is_open then line_by settings moment conn text random c st else moving_none st
+
+-- what a line does, once it is known what that is
+abbrev pub obeyed : Settings → ℕ → ℕ → Bytes → Obeyed → State → Heard
+obeyed settings moment conn random Nothing st = moving_none st
+obeyed settings moment conn random Closes st = closing conn st
+obeyed settings moment conn random (ClientMessage message) st = obeys settings moment conn random message st
+obeyed settings moment conn random (MasterMessage message) st = obeys_master settings moment conn random message st

@@ -13,7 +13,8 @@ use Rattle.da_hist.specs.Tables.{Heard, is_open_in}
 use Rattle.da_hist.specs.Queries.{first_waiting, is_running_in, query_with}
 use Rattle.da_hist.specs.Hits.{hits_from, database_count}
 use Rattle.da_hist.specs.History.{state, after, heard, with_due_replied}
-use Rattle.da_hist.specs.Effects.{Effects, effects, due_lines, own_lines}
+use Rattle.da_hist.specs.declared.effects.Effects.{Effects}
+use Rattle.da_hist.specs.Effects.{effects, due_lines, own_lines}
 use Rattle.da_hist.specs.Legal.{is_full, entry_moment, open_count, late_from}
 
 -- ---- refusals

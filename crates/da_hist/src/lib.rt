@@ -1,28 +1,42 @@
 //! The sequential server: what happens is a history of entries, and each reply follows from the whole history.
-//! `Plain::step` is that server, computed from the list of entries each time; `specs/FirstLogin.antt` says what it
-//! answers on the path of a first login.
+//! `Plain::step` is that server, computed from the list of entries each time; `specs/Steps.antt` says what it answers, by
+//! the play of events in `specs/Play.antt`.
 #![tactic(auto)]
 
+mod attempts;
+mod connections;
+mod copies;
 pub mod delay_laws;
-mod first_login;
+pub mod effects;
+mod grants;
+mod heard;
+mod history;
+mod hits;
 mod input;
 pub mod laws;
-mod lines;
 mod lists;
-mod login;
+mod mechanisms;
+mod messages;
+mod names;
+mod numbered;
+mod openings;
 mod outputs;
 mod plain;
-mod runs;
+mod queries;
+mod refusals;
+mod replay;
+mod replies;
 mod settings;
+mod sizes;
+mod stages;
 pub mod state;
+mod tables;
 mod usual;
 pub mod worked_runs;
 
 pub use input::{Entry, Input};
 pub use lists::{Mechs, Numbers, Passdbs, Sent, Texts, Userdbs};
-pub use login::{Login, is_user_name};
 pub use outputs::{Outputs, Refused};
 pub use plain::Plain;
-pub use runs::a_first_login_is_answered;
 pub use settings::{Goal, Settings};
 pub use usual::usual_passdb;

@@ -1,6 +1,6 @@
 // Lists, as they stand in entries, outputs and settings.
 
-ghost use Rattle.std.specs.Prelude.{◌≡◌, IfOk};
+ghost use Rattle.std.specs.Prelude.{◌≡◌, ◌++◌, ◌∷◌, [], IfOk, OnOk};
 
 use da_fields::Text;
 use da_msgs::Mech;
@@ -36,6 +36,23 @@ impl Numbers {
         ensures { result.now ≡ self.now }
     {
         &self.items
+    }
+
+    /// Equal numbers.
+    pub fn copy(&self, alloc: Global) -> Result<Numbers, AllocError>
+        ensures { IfOk result (λ copy. copy ≡ self.now) }
+    {
+        Ok(Numbers {
+            items: Vec::from_slice(alloc, &self.items)?,
+        })
+    }
+
+    /// Puts the number first.
+    pub(crate) fn put_first(&mut self, number: u32) -> Result<(), AllocError>
+        ensures { OnOk result (self.new ≡ number ∷ self.old) }
+    {
+        self.items.insert(0, number)?;
+        Ok(())
     }
 }
 
@@ -136,6 +153,14 @@ impl Texts {
         ensures { result.now ≡ self.now }
     {
         &self.items
+    }
+
+    /// One text more, as the last.
+    pub(crate) fn push(&mut self, text: Text) -> Result<(), AllocError>
+        ensures { OnOk result (self.new ≡ self.old ++ text ∷ []) }
+    {
+        self.items.push(text)?;
+        Ok(())
     }
 
     /// Equal texts.

@@ -1,165 +1,129 @@
 // The server computed from its history.
 
-ghost use Rattle.std.specs.Prelude.{◌≡◌, ◌<◌, ◌+◌, ◌-◌, ◌^◌, ◌∷◌, ◌++◌, List, ℕ, [], Option, None, Some, suc, reverse, map, length, IfOk, OnOk, IfErr};
-ghost use Rattle.da_hist.specs.FirstLogin.{IsNext, Effects, stage, is_right, is_replied, newly_replied_by, opened_by, handed_out_by, effects, reply_to, final_lines, greeting_lines, query_of, outputs, last_moment, next_entry, with_due_replied, state, settled, heard};
-ghost use Rattle.da_hist.specs.FirstLoginPlay.{history_after};
+ghost use Rattle.std.specs.Prelude.{◌≡◌, ◌<◌, ◌^◌, ◌-◌, [], ◌∷◌, Ok, Some, reverse, length, IfOk, IfErr, OnOk, option_map, option_and_then};
+ghost use Rattle.da_base.specs.Words.{nth};
+ghost use Rattle.da_hist.specs.History.{heard, with_due_replied, after};
+ghost use Rattle.da_hist.specs.Effects.{effects};
+ghost use Rattle.da_hist.specs.Legal.{last_moment};
+ghost use Rattle.da_hist.specs.Play.{hits_for, outputs_with};
+ghost use Rattle.da_hist.specs.Queries.{query_with as words_query_with};
+ghost use Rattle.da_hist.specs.Steps.{Steps, Tries};
 
-use crate::first_login::{State, go_on, is_right_login, reply_due, state_of, waits};
+use crate::effects::{Effects, due_lines, own_lines};
+use crate::hits::{database_count, hits_from};
 use crate::input::{Entry, Input};
-use crate::lines;
 use crate::lists::{Numbers, Sent};
+use crate::numbered::row;
 use crate::outputs::{Outputs, Refused};
+use crate::queries::query_with;
+use crate::refusals::input_refusal;
+use crate::replay::replay;
 use crate::settings::{Goal, Settings};
-use da_fields::{Query, QueryKind, Text};
+use crate::state::State;
+use da_fields::Query;
 use std::alloc::{AllocError, Global};
 use std::marker::Model;
 
-fn is_replied_in(state: &State) -> bool
-    ensures { result ≡ is_replied state.now }
-{
-    match &state.request {
-        Some(request) => request.replied.is_some(),
-        None => false,
-    }
+/// An entry, and what it gives out.
+#[derive(Drop)]
+pub(crate) struct Entered {
+    pub(crate) entry: Entry,
+    pub(crate) outputs: Outputs,
 }
 
-/// The request's final reply, where one is to be sent.
-fn push_reply(
-    lines: &mut Vec<(u32, Text)>,
-    alloc: Global,
-    state: &State,
-    number: Option<u32>,
-) -> Result<(), AllocError>
-    ensures { OnOk result (lines.new.items ≡ lines.old.items ++ final_lines state.now number) }
-{
-    if number.is_none() {
-        return Ok(());
-    }
-    if let Some(request) = &state.request {
-        let line = lines::reply(
-            alloc,
-            is_right_login(request),
-            request.id,
-            request.user.bytes(),
-        )?;
-        lines.push((request.conn, line))?;
-    }
-    Ok(())
-}
-
-/// The request, where it is replied now and wasn't before.
-fn new_reply(before: bool, now: bool) -> Option<u32>
-    ensures { result ≡ newly_replied_by before now }
-{
-    if now && !before { Some(1) } else { None }
-}
-
-fn opened(input: &Input, state: &State) -> Option<u32>
-    requires { state.now.connections < 2 ^ 32 - 1 }
-    ensures { result ≡ opened_by input.now state.now }
-{
-    match input {
-        Input::Opened { .. } => Some(state.connections + 1),
-        _ => None,
-    }
-}
-
-fn handed_out(input: &Input, state: &State) -> Option<u32>
-    ensures { result ≡ handed_out_by input.now state.now }
-{
-    match input {
-        Input::Take if waits(&state.query) => Some(1),
-        _ => None,
-    }
-}
-
-/// The lines to a client whose connection the input opens.
-fn greeting(
+/// The hits of the request that an input moves, after these tables.
+fn hits_of(
     alloc: Global,
     settings: &Settings,
+    state: &State,
+    moment: u64,
     input: &Input,
-    conn: Option<u32>,
-) -> Result<Vec<(u32, Text)>, AllocError>
-    ensures { IfOk result (λ lines. lines.items ≡ greeting_lines settings.now input.now conn) }
+) -> Result<Vec<u32>, AllocError>
+    requires requests { length state.now.requests < 2 ^ 32 - 1 }
+    requires connections { length state.now.connections < 2 ^ 32 - 1 }
+    requires queries { length state.now.queries < 2 ^ 32 - 1 }
+    ensures { IfOk result (λ hits. hits.items ≡ hits_for settings.now moment state.now (heard settings.now moment input.now (with_due_replied settings.now moment state.now))) }
 {
-    match (input, conn) {
-        (Input::Opened { random, .. }, Some(conn)) => lines::greet(
+    let mut ahead = state.copy(alloc)?;
+    ahead.reply_due(alloc, settings, moment)?;
+    let heard = ahead.hear(alloc, settings, moment, input)?;
+    let Some(number) = heard.mover else {
+        return Ok(Vec::new(alloc));
+    };
+    match row(&ahead.requests.items, number) {
+        Some(request) => hits_from(
             alloc,
-            settings.server_pid,
-            settings.mechanisms.all(),
-            conn,
-            random,
+            settings,
+            moment,
+            state,
+            database_count(settings),
+            request,
         ),
-        (_, Some(conn)) => lines::greet(
-            alloc,
-            settings.server_pid,
-            settings.mechanisms.all(),
-            conn,
-            &[],
-        ),
-        (_, None) => Ok(Vec::new(alloc)),
+        None => Ok(Vec::new(alloc)),
     }
 }
 
-/// The query that is handed out: it asks the first password database for the user.
-fn query(alloc: Global, state: &State, number: Option<u32>) -> Result<Option<Query>, AllocError>
-    ensures { IfOk result (λ query. query ≡ query_of state.now number) }
+fn query_of(
+    alloc: Global,
+    state: &State,
+    handed_out: Option<u32>,
+) -> Result<Option<Query>, AllocError>
+    ensures { IfOk result (λ query. query ≡ option_and_then (λ n. option_map (words_query_with n) (nth state.now.queries n)) handed_out) }
 {
-    let Some(number) = number else {
+    let Some(number) = handed_out else {
         return Ok(None);
     };
-    let Some(request) = &state.request else {
-        return Ok(None);
-    };
-    Ok(Some(Query {
-        number,
-        kind: QueryKind::Pass,
-        db: 1,
-        user: Text::new(Vec::from_slice(alloc, request.user.bytes())?),
-        password: None,
-    }))
+    match row(&state.queries.items, number) {
+        Some(asked) => Ok(Some(query_with(alloc, number, asked)?)),
+        None => Ok(None),
+    }
 }
 
-/// What an entry after these entries gives out.
 fn outputs_of(
     alloc: Global,
     settings: &Settings,
-    entries: &[Entry],
-    entry: &Entry,
+    number: u64,
+    hits: &Numbers,
+    state: &State,
+    effects: &Effects,
 ) -> Result<Outputs, AllocError>
-    requires { length entries.now < 2 ^ 32 - 1 }
-    ensures { IfOk result (λ out. out ≡ outputs settings.now (reverse entries.now) entry.now) }
+    ensures { IfOk result (λ out. out ≡ outputs_with settings.now number hits.now state.now effects.now) }
 {
-    let mut state = state_of(alloc, settings, entries)?;
-    let conn = opened(&entry.input, &state);
-    let was_replied = is_replied_in(&state);
-    reply_due(settings, entry.moment, &mut state);
-    let due_replied = is_replied_in(&state);
-    let mut due_lines = Vec::new(alloc);
-    push_reply(
-        &mut due_lines,
-        alloc,
-        &state,
-        new_reply(was_replied, due_replied),
-    )?;
-    let number = handed_out(&entry.input, &state);
-    go_on(alloc, settings, &mut state, entry)?;
-    let mut lines = greeting(alloc, settings, &entry.input, conn)?;
-    push_reply(
-        &mut lines,
-        alloc,
-        &state,
-        new_reply(due_replied, is_replied_in(&state)),
-    )?;
     Ok(Outputs {
-        entry: entries.len() as u64 + 1,
-        conn,
-        query: query(alloc, &state, number)?,
-        hits: Numbers::new(Vec::new(alloc)),
-        due_lines: Sent::new(due_lines),
-        lines: Sent::new(lines),
-        closed: None,
+        entry: number,
+        conn: effects.opened,
+        query: query_of(alloc, state, effects.handed_out)?,
+        hits: hits.copy(alloc)?,
+        due_lines: Sent::new(due_lines(alloc, settings, state, effects)?),
+        lines: Sent::new(own_lines(alloc, settings, state, effects)?),
+        closed: effects.closed,
     })
+}
+
+/// The entry of this number that an input makes after these tables, and what it gives out.
+fn enter(
+    alloc: Global,
+    settings: &Settings,
+    mut state: State,
+    number: u64,
+    moment: u64,
+    input: Input,
+) -> Result<Entered, AllocError>
+    requires requests { length state.requests < 2 ^ 32 - 1 }
+    requires connections { length state.connections < 2 ^ 32 - 1 }
+    requires queries { length state.queries < 2 ^ 32 - 1 }
+    ensures entry { IfOk result (λ entered. entered.entry ≡ record { moment = moment; input = input; hits = hits_for settings.now moment state (heard settings.now moment input (with_due_replied settings.now moment state)) }) }
+    ensures outputs { IfOk result (λ entered. entered.outputs ≡ outputs_with settings.now number entered.entry.hits (after settings.now state entered.entry) (effects settings.now state entered.entry)) }
+{
+    let hits = Numbers::new(hits_of(alloc, settings, &state, moment, &input)?);
+    let entry = Entry {
+        moment,
+        input,
+        hits,
+    };
+    let effects = state.enter(alloc, settings, &entry)?;
+    let outputs = outputs_of(alloc, settings, number, &entry.hits, &state, &effects)?;
+    Ok(Entered { entry, outputs })
 }
 
 fn moment_after(entries: &[Entry]) -> u64
@@ -168,6 +132,37 @@ fn moment_after(entries: &[Entry]) -> u64
     match entries {
         [] => 0,
         [.., last] => last.moment,
+    }
+}
+
+/// What comes of an input after these entries: the next entry and what it gives out, or why there is none.
+#[tactic(auto, unfolding(crate::specs::Play::refusal, crate::specs::Play::next_entry, crate::specs::Play::outputs, crate::specs::Play::hits))]
+fn next_of(
+    alloc: Global,
+    settings: &Settings,
+    entries: &[Entry],
+    moment: u64,
+    input: Input,
+) -> Result<Entered, Refused>
+    ensures { Tries settings.now (reverse entries.now) moment input result }
+{
+    let moment = moment.max(moment_after(entries));
+    if settings.history_entries <= entries.len() as u64 {
+        return Err(Refused::HistoryFull);
+    }
+    let Ok(course) = replay(alloc, settings, entries) else {
+        return Err(Refused::NoMemory);
+    };
+    if course.left == 0 {
+        return Err(Refused::HistoryFull);
+    }
+    if let Some(refused) = input_refusal(settings, &course.state, moment, &input) {
+        return Err(refused);
+    }
+    let number = entries.len() as u64 + 1;
+    match enter(alloc, settings, course.state, number, moment, input) {
+        Ok(entered) => Ok(entered),
+        Err(_) => Err(Refused::NoMemory),
     }
 }
 
@@ -202,24 +197,25 @@ impl Plain {
         })
     }
 
-    /// Makes one entry of the input, at the moment handed in or at the last entry's, whichever is later. An error is want
-    /// of memory, and then the server is as it was.
+    /// Makes one entry of the input, at the moment handed in or at the last entry's, whichever is later, and gives out
+    /// what the sequential server gives out. An input that may not be an entry is refused, by the first of the reasons that
+    /// applies, in the order of `Refused`. After a refusal, want of memory among them, the server is as it was.
     pub fn step(&mut self, moment: u64, input: Input) -> Result<Outputs, Refused>
-        requires { IsNext (length self.old.history) input }
-        ensures ok { IfOk result (λ out. out ≡ outputs self.old.settings self.old.history (next_entry self.old.history moment input)) }
-        ensures entry { OnOk result (self.new ≡ record self.old { history = history_after self.old.history moment input }) }
+        ensures { Steps self.old self.new moment input result }
+    {
+        match next_of(self.alloc, &self.settings, &self.entries, moment, input) {
+            Ok(entered) => self.push(entered),
+            Err(refused) => Err(refused),
+        }
+    }
+
+    fn push(&mut self, entered: Entered) -> Result<Outputs, Refused>
+        ensures ok { IfOk result (λ out. out ≡ entered.outputs) }
+        ensures entry { OnOk result (self.new ≡ record self.old { history = entered.entry ∷ self.old.history }) }
         ensures err { IfErr result (λ e. (e ≡ Refused.NoMemory) × (self.new ≡ self.old)) }
     {
-        let entry = Entry {
-            moment: moment.max(moment_after(&self.entries)),
-            input,
-            hits: Numbers::new(Vec::new(self.alloc)),
-        };
-        let Ok(outputs) = outputs_of(self.alloc, &self.settings, &self.entries, &entry) else {
-            return Err(Refused::NoMemory);
-        };
-        match self.entries.push(entry) {
-            Ok(()) => Ok(outputs),
+        match self.entries.push(entered.entry) {
+            Ok(()) => Ok(entered.outputs),
             Err(_) => Err(Refused::NoMemory),
         }
     }

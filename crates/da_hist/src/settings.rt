@@ -1,9 +1,13 @@
 // Settings, and the goal of a run.
 
-ghost use Rattle.std.specs.Prelude.{◌≡◌, IfOk};
+ghost use Rattle.std.specs.Prelude.{◌≡◌, IfOk, IsTrue};
+ghost use Rattle.da_passdb.specs.LoginChain.{are_valid_passdbs};
+ghost use Rattle.da_userdb.specs.UserChain.{are_valid_userdbs};
 
 use crate::lists::{Mechs, Passdbs, Texts, Userdbs};
 use da_fields::Text;
+use da_passdb::Passdb;
+use da_userdb::Userdb;
 use std::alloc::{AllocError, Global};
 use std::marker::Model;
 
@@ -60,6 +64,22 @@ impl Model for Settings {
 }
 
 impl Settings {
+    /// The password databases, which are valid.
+    pub(crate) fn passdbs(&self) -> &[Passdb]
+        ensures all { result.now ≡ self.now.passdb }
+        ensures valid { IsTrue (are_valid_passdbs result.now) }
+    {
+        self.passdb.all()
+    }
+
+    /// The user databases, which are valid.
+    pub(crate) fn userdbs(&self) -> &[Userdb]
+        ensures all { result.now ≡ self.now.userdb }
+        ensures valid { IsTrue (are_valid_userdbs result.now) }
+    {
+        self.userdb.all()
+    }
+
     /// Equal settings.
     pub fn copy(&self, alloc: Global) -> Result<Settings, AllocError>
         ensures { IfOk result (λ settings. settings ≡ self.now) }

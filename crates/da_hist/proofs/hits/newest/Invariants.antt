@@ -1,0 +1,7 @@
+use Rattle.std.proofs.Common.{◌≡◌, drop}
+use Rattle.da_hist.specs.Hits as words
+use Rattle.da_hist.specs.Queries.{key_of}
+use Rattle.da_hist.proofs.hits.newest.Given as goal
+
+abbrev pub invariant-loop-number : goal.invariant-loop-number
+invariant-loop-number l = words.newest_among l.state (key_of l.question) (drop l.number-index l.state.recordings) ≡ words.newest l.state (key_of l.question)

@@ -1,0 +1,59 @@
+// The replay of a history: the tables at its end, and how much it may still grow.
+
+ghost use Rattle.std.specs.Prelude.{◌≡◌, ◌<◌, ◌+◌, ◌-◌, ◌^◌, length, reverse, sum_by, IfOk};
+ghost use Rattle.da_hist.specs.History.{state};
+ghost use Rattle.da_hist.specs.Legal.{size, input_size};
+ghost use Rattle.da_hist.specs.Effects.{lines};
+
+use crate::effects::{Effects, due_lines, own_lines};
+use crate::input::Entry;
+use crate::settings::Settings;
+use crate::sizes::{after_input, after_lines};
+use crate::state::State;
+use std::alloc::{AllocError, Global};
+
+/// The bytes that an entry counts beside its texts and lines.
+const ENTRY_SIZE: u64 = 64;
+
+/// How far a history has come.
+#[derive(Drop)]
+pub(crate) struct Course {
+    /// The tables at its end.
+    pub(crate) state: State,
+    /// How many bytes it may still grow by.
+    pub(crate) left: u64,
+}
+
+fn left_after(
+    alloc: Global,
+    settings: &Settings,
+    state: &State,
+    effects: &Effects,
+    entry: &Entry,
+    left: u64,
+) -> Result<u64, AllocError>
+    ensures { IfOk result (λ rest. rest ≡ left - (64 + input_size entry.now.input + sum_by (λ l. length l.1) (lines settings.now state.now effects.now))) }
+{
+    let rest = after_input(left.saturating_sub(ENTRY_SIZE), &entry.input);
+    let rest = after_lines(rest, &due_lines(alloc, settings, state, effects)?);
+    Ok(after_lines(rest, &own_lines(alloc, settings, state, effects)?))
+}
+
+/// Goes through the entries of a history, the oldest first.
+pub(crate) fn replay(
+    alloc: Global,
+    settings: &Settings,
+    entries: &[Entry],
+) -> Result<Course, AllocError>
+    requires { length entries.now < 2 ^ 32 - 1 }
+    ensures state { IfOk result (λ c. c.state ≡ state settings.now (reverse entries.now)) }
+    ensures left { IfOk result (λ c. c.left ≡ settings.now.history_bytes - size settings.now (reverse entries.now)) }
+{
+    let mut state = State::new(alloc);
+    let mut left = settings.history_bytes;
+    for entry in entries {
+        let effects = state.enter(alloc, settings, entry)?;
+        left = left_after(alloc, settings, &state, &effects, entry, left)?;
+    }
+    Ok(Course { state, left })
+}
