@@ -17,10 +17,10 @@ pub fn answer_from(db: u32, answers: &[(u32, Answer)]) -> Option<&Answer>
     None
 }
 
-/// The fields of the answer, or `none`, which has no pairs, where it has no fields.
+/// The fields of the answer, or `none` where it has no fields. With a `none` without pairs these are the answer's fields,
+/// whatever the answer.
 pub fn answer_fields<'a>(answer: &'a Answer, none: &'a Fields) -> &'a Fields
-    requires { none.now ≡ [] }
-    ensures { result.now ≡ words.answer_fields answer.now }
+    ensures { none.now ≡ [] → result.now ≡ words.answer_fields answer.now }
 {
     match answer {
         Answer::Found { fields, .. } | Answer::Passed { fields } => fields,
