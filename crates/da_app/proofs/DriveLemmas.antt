@@ -1,23 +1,17 @@
 -- Lemmas on the whole command, by the status of its parts.
-use Rattle.std.proofs.Common.{◌≡◌, ◌<◌, List, length, Option, Some, None, Err, refl, sym, ap, ◌∙◌, subst, inl, inr}
+use Rattle.std.proofs.Common.{◌≡◌, List, Option, Some, None, Err, refl, subst, inl, inr}
 use Rattle.std.specs.Prelude.{IfSome}
 use Rattle.std.specs.Io.KnownBytes.{Keeps}
 use Rattle.std.proofs.KnownBytes.{Keeps-refl}
-use Rattle.std.proofs.lemmas.Bool.{lt-ltb}
 use Rattle.da_base.specs.Words.{Bytes}
-use Rattle.da_outside.specs.Files.{File, bytes_at}
+use Rattle.da_outside.specs.Files.{File}
 use Rattle.da_outside.specs.Past.{Stays}
 use Rattle.da_outside.specs.declared.files.FileRead.{FileRead}
-use Rattle.da_config.specs.declared.fault.Fault.{Fault}
-use Rattle.da_config.specs.declared.fault.FaultKind.TheVariants.{Range}
-use Rattle.da_config.specs.declared.fault.ConfigFault.{ConfigFault}
-use Rattle.da_config.specs.declared.fault.ConfigFault.TheVariants.{Bad, NoMemory as TextNoMemory}
 use Rattle.da_app.specs.declared.status.Status.{Status}
 use Rattle.da_app.specs.declared.status.Status.TheVariants.{Done, Usage, BadScript, LongScript, BadInput, NoSettings, NoListen, NoMemory, ReadFault, WriteFault, Full, BadSettings}
-use Rattle.da_config.specs.Reading.{IsRead}
-use Rattle.da_config.specs.SettingsText.{fault_at_all}
-use Rattle.da_app.specs.Settings.{settings_of}
-use Rattle.da_app.specs.Drive.{Outside, IsUntouched, RunsWith, Drives, Completes, IsTooLong, fault_status}
+use Rattle.da_app.specs.SettingsFile.{ReadsSettings}
+use Rattle.da_app.specs.Drive.{Outside, IsUntouched, RunsWith, Drives, Completes}
+use Rattle.da_app.specs.Worker.{files_told}
 use Rattle.da_app.proofs.Complete.{completes}
 
 pub Stays-refl : (past : Option (List FileRead)) → Stays past past
@@ -36,43 +30,23 @@ untouched before now left contents =
       writes = subst (λ (l : Option Bytes). Keeps before.contents l) contents (Keeps-refl before.contents);
     }
 
-long_text : (text : Bytes) (fault : Fault) → 1048576 < length text → fault ≡ fault_at_all Range → settings_of text ≡ Err fault
-long_text text fault long is = rw (lt-ltb 1048576 (length text) long) (ap (λ (f : Fault). Err f) (sym is))
+-- no settings were read, and nothing of the input was read and nothing written
+pub drives_unread : (path : Bytes) (before now : Outside) (status : Status)
+    → ReadsSettings path (files_told before) (files_told now) (Err status) → IsUntouched before now → Drives (Some path) before now status
+drives_unread path before now NoSettings read same = (read.0, read.1, same)
+drives_unread path before now (BadSettings fault) read same = (read, same)
+drives_unread path before now NoMemory read same = inl same
+drives_unread path before now Done read same = absurd read
+drives_unread path before now Usage read same = absurd read
+drives_unread path before now (BadScript line) read same = absurd read
+drives_unread path before now LongScript read same = absurd read
+drives_unread path before now BadInput read same = absurd read
+drives_unread path before now NoListen read same = absurd read
+drives_unread path before now ReadFault read same = absurd read
+drives_unread path before now WriteFault read same = absurd read
+drives_unread path before now Full read same = absurd read
 
-pub drives_long : (path : Bytes) (before now : Outside) (status : Status) → IsTooLong status
-    → IfSome before.held (λ files. 1048576 < length (bytes_at files path)) → IsUntouched before now → Drives (Some path) before now status
-drives_long path before now (BadSettings fault) is long same = (
-  IfSome-map before.held (λ files. 1048576 < length (bytes_at files path)) (λ files. settings_of (bytes_at files path) ≡ Err fault)
-      (λ files more. long_text (bytes_at files path) fault more is) long,
-  same,
-)
-drives_long path before now NoMemory is long same = inl same
-drives_long path before now Done is long same = absurd is
-drives_long path before now Usage is long same = absurd is
-drives_long path before now (BadScript line) is long same = absurd is
-drives_long path before now LongScript is long same = absurd is
-drives_long path before now BadInput is long same = absurd is
-drives_long path before now NoSettings is long same = absurd is
-drives_long path before now NoListen is long same = absurd is
-drives_long path before now ReadFault is long same = absurd is
-drives_long path before now WriteFault is long same = absurd is
-drives_long path before now Full is long same = absurd is
-
-drives_bad : (path : Bytes) (before now : Outside) (text : Bytes) (fault : Fault) → IfSome before.held (λ files. text ≡ bytes_at files path)
-    → settings_of text ≡ Err fault → IsUntouched before now → Drives (Some path) before now (BadSettings fault)
-drives_bad path before now text fault is bad same = (
-  IfSome-map before.held (λ files. text ≡ bytes_at files path) (λ files. settings_of (bytes_at files path) ≡ Err fault)
-      (λ files e. ap settings_of (sym e) ∙ bad) is,
-  same,
-)
-
--- a text that gave no settings
-pub drives_fault : (path : Bytes) (before now : Outside) (text : Bytes) (fault : ConfigFault) (status : Status) → IfSome before.held (λ files. text ≡ bytes_at files path)
-    → IsRead (settings_of text) (Err fault) → IsUntouched before now → status ≡ fault_status fault → Drives (Some path) before now status
-drives_fault path before now text (Bad fault) status is bad same e =
-    subst (λ (s : Status). Drives (Some path) before now s) (sym e) (drives_bad path before now text fault is bad same)
-drives_fault path before now text TextNoMemory status is bad same e = subst (λ (s : Status). Drives (Some path) before now s) (sym e) (inl same)
-
+-- the settings were read, and the script was played under them
 pub drives_ran : (path : Bytes) (before now : Outside) (status : Status) → RunsWith path before now status → Drives (Some path) before now status
 drives_ran path before now Done runs = runs
 drives_ran path before now Usage runs = absurd runs.ran.ends

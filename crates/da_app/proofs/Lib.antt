@@ -1,4 +1,4 @@
-pub mod EventLemmas
+pub mod ReplyLemmas
 pub mod Running
 pub mod Complete
 pub mod DriveLemmas

@@ -11,53 +11,64 @@ use Rattle.da_outside.specs.Causes.{Rose}
 use Rattle.da_tabline.specs.Lines.{Cutter, line_cut, new_cutter, after_feed, after_take}
 use Rattle.da_tabline.proofs.StreamLemmas.{after_feed-append}
 use Rattle.da_hist.specs.declared.settings.Settings.{Settings}
-use Rattle.da_hist.specs.declared.input.Input.{Input}
 use Rattle.da_hist.specs.declared.input.Entry.{Entry}
-use Rattle.da_hist.specs.FirstLoginPlay.{reply, history_after, play}
+use Rattle.da_hist.specs.Legal.{is_full}
+use Rattle.da_hist.specs.Play.{Event, reply, history_after, play}
 use Rattle.da_hist.specs.Served.{Served}
 use Rattle.da_app.specs.declared.status.Status.{Status}
-use Rattle.da_app.specs.declared.status.Status.TheVariants.{Done, BadScript, LongScript, NoMemory, ReadFault, WriteFault}
-use Rattle.da_app.specs.Events.{event_of}
-use Rattle.da_app.specs.Print.{printed, printed_from}
+use Rattle.da_app.specs.declared.status.Status.TheVariants.{Done, BadScript, LongScript, NoMemory, ReadFault, WriteFault, Full}
+use Rattle.da_script.specs.Events.{event_of}
+use Rattle.da_script.specs.Replies.{reply_text, replies_text}
+use Rattle.da_script.specs.Scripts.{script_cut, with_event, events_from, events}
 use Rattle.da_worker.specs.Output.{Begins}
-use Rattle.da_app.specs.Script.{script_cut, with_event, events_from, bad_from, or_bad, first_bad, output_from, output}
+use Rattle.da_worker.proofs.Running.{line_cut-few}
+use Rattle.da_app.specs.Script.{bad_from, or_bad, first_bad, full_from, first_full, output_of, output}
 use Rattle.da_worker.specs.Fill.{FeedsBytes, ReadsSome, ReadsOne}
-use Rattle.da_app.specs.Play.{PlaysEvent, PlaysFront, Ends, Ran}
-use Rattle.da_app.proofs.EventLemmas.{event_placed}
+use Rattle.da_app.specs.Play.{PlaysEvent, PlaysFront, MeetsFull, Ends, Ran}
 
--- the run so far: what was read and written, the lines played, and what any further lines will add
+-- the run so far: what was read and written, the lines played and their events, and what any further ones will add
 pub record Running (s : Settings) (left_before left_now before now : Option Bytes) (cutter : Cutter) (server : Served) (number budget : ℕ) : Type 0 where
   pub taken : Bytes
   pub played : List Bytes
+  pub heard : List Event
   pub written : Bytes
   pub reads : Consumes left_before left_now taken
   pub writes : Appends before now written
   pub fed : record cutter { ready = played ++ cutter.ready } ≡ after_feed (new_cutter 16384) taken
-  pub output : (more : List Bytes) → output_from s [] 1 (played ++ more) ≡ written ++ output_from s server.history number more
+  pub events : (more : List Bytes) → events_from (played ++ more) ≡ heard ++ events_from more
+  pub output : (more : List Event) → output_of s (heard ++ more) ≡ written ++ replies_text number (play s server.history more)
+  pub full : (more : List Event) → full_from s [] 1 (heard ++ more) ≡ full_from s server.history number more
   pub bad : (more : List Bytes) → bad_from 1 (played ++ more) ≡ bad_from number more
-  pub next : number ≡ length server.history + 1
   pub count : number ≡ length played + 1
-  pub few : number ≤ 7
+  pub counted : number ≡ length heard + 1
   pub bytes : length taken + budget ≡ 2 ^ 30
   pub settings : server.settings ≡ s
 
 -- ---- the definitions at one more line
 
-output_from-event : (s : Settings) (g : List Entry) (n : ℕ) (line : Bytes) (more : List Bytes) (event : ℕ × Input) → event_of n line ≡ Some event
-    → output_from s g n (line ∷ more) ≡ printed n (reply s g event.0 event.1) ++ output_from s (history_after g event.0 event.1) (n + 1) more
-output_from-event s g n line more event e =
-    ap (λ o. printed_from n (play s g (with_event o (events_from (suc n) more)))) e
-    ∙ ap (λ m. printed n (reply s g event.0 event.1) ++ printed_from m (play s (history_after g event.0 event.1) (events_from m more))) (sym (add-one n))
+events_from-event : (line : Bytes) (more : List Bytes) (event : Event) → event_of line ≡ Some event → events_from (line ∷ more) ≡ event ∷ events_from more
+events_from-event line more event e = ap (λ o. with_event o (events_from more)) e
 
-output_from-none : (s : Settings) (g : List Entry) (n : ℕ) (line : Bytes) (more : List Bytes) → event_of n line ≡ None → output_from s g n (line ∷ more) ≡ []
-output_from-none s g n line more e = ap (λ o. printed_from n (play s g (with_event o (events_from (suc n) more)))) e
+events_from-none : (line : Bytes) (more : List Bytes) → event_of line ≡ None → events_from (line ∷ more) ≡ []
+events_from-none line more e = ap (λ o. with_event o (events_from more)) e
 
-bad_from-event : (n : ℕ) (line : Bytes) (more : List Bytes) (event : ℕ × Input) → event_of n line ≡ Some event
+full_from-room : (s : Settings) (h : List Entry) (n : ℕ) (event : Event) (more : List Event) → is_full s h ≡ false
+    → full_from s h n (event ∷ more) ≡ full_from s (history_after s h event.0 event.1) (n + 1) more
+full_from-room s h n event more room =
+    ap (λ b. cond b (Some n) (full_from s (history_after s h event.0 event.1) (suc n) more)) room
+    ∙ ap (λ m. full_from s (history_after s h event.0 event.1) m more) (sym (add-one n))
+
+full_from-full : (s : Settings) (h : List Entry) (n : ℕ) (event : Event) (more : List Event) → is_full s h ≡ true
+    → full_from s h n (event ∷ more) ≡ Some n
+full_from-full s h n event more full =
+    ap (λ b. cond b (Some n) (full_from s (history_after s h event.0 event.1) (suc n) more)) full
+
+bad_from-event : (n : ℕ) (line : Bytes) (more : List Bytes) (event : Event) → event_of line ≡ Some event
     → bad_from n (line ∷ more) ≡ bad_from (n + 1) more
 bad_from-event n line more event e =
     ap (λ o. cond (is_some o) (bad_from (suc n) more) (Some n)) e ∙ ap (λ m. bad_from m more) (sym (add-one n))
 
-bad_from-none : (n : ℕ) (line : Bytes) (more : List Bytes) → event_of n line ≡ None → bad_from n (line ∷ more) ≡ Some n
+bad_from-none : (n : ℕ) (line : Bytes) (more : List Bytes) → event_of line ≡ None → bad_from n (line ∷ more) ≡ Some n
 bad_from-none n line more e = ap (λ o. cond (is_some o) (bad_from (suc n) more) (Some n)) e
 
 -- ---- the run goes on
@@ -69,15 +80,17 @@ running_start s left contents server same none =
     record {
       taken = [];
       played = [];
+      heard = [];
       written = [];
       reads = Consumes-nil left;
       writes = Appends-nil contents;
       fed = refl;
-      output = λ more. ap (λ g. output_from s g 1 more) (sym none);
+      events = λ more. refl;
+      output = λ more. ap (λ h. replies_text 1 (play s h more)) (sym none);
+      full = λ more. ap (λ h. full_from s h 1 more) (sym none);
       bad = λ more. refl;
-      next = sym (ap (λ (g : List Entry). length g + 1) none);
       count = refl;
-      few = omega arith;
+      counted = refl;
       bytes = refl;
       settings = same;
     }
@@ -105,15 +118,17 @@ running_fed s left_before left_now left_new before now cutter new server number 
     record {
       taken = run.taken ++ feeds.bytes;
       played = run.played;
+      heard = run.heard;
       written = run.written;
       reads = Consumes-trans left_before left_now left_new run.taken feeds.bytes run.reads feeds.reads;
       writes = run.writes;
       fed = ap (λ (c : Cutter). record c { ready = run.played ++ c.ready }) feeds.fed ∙ more_fed run.played cutter run.taken feeds.bytes run.fed;
+      events = run.events;
       output = run.output;
+      full = run.full;
       bad = run.bad;
-      next = run.next;
       count = run.count;
-      few = run.few;
+      counted = run.counted;
       bytes =
           let total = run.bytes in
           let counted = feeds.counted in
@@ -129,35 +144,43 @@ pub running_played : (s : Settings) (left_before left_now before now later : Opt
     → PlaysEvent number line server after now later
     → Running s left_before left_now before later new after (number + 1) budget
 running_played s left_before left_now before now later old new server after number budget line run first taken plays =
-    let printed_reply = printed number (reply s server.history plays.event.0 plays.event.1) in
-    let writes : Appends now later printed_reply =
-    subst (λ t. Appends now later (printed number (reply t server.history plays.event.0 plays.event.1))) run.settings plays.writes in
-    let history : after.history ≡ history_after server.history plays.event.0 plays.event.1 = ap (λ (v : Served). v.history) plays.history in
+    let event = plays.event in
+    let text = reply_text number (reply s server.history event.0 event.1) in
+    let writes : Appends now later text =
+    subst (λ t. Appends now later (reply_text number (reply t server.history event.0 event.1))) run.settings plays.writes in
+    let history : after.history ≡ history_after s server.history event.0 event.1 =
+    ap (λ (v : Served). v.history) plays.goes_on ∙ ap (λ t. history_after t server.history event.0 event.1) run.settings in
+    let room : is_full s server.history ≡ false = subst (λ t. is_full t server.history ≡ false) run.settings plays.has_room in
     record {
       taken = run.taken;
       played = run.played ++ line ∷ [];
-      written = run.written ++ printed_reply;
+      heard = run.heard ++ event ∷ [];
+      written = run.written ++ text;
       reads = run.reads;
-      writes = Appends-trans before now later run.written printed_reply run.writes writes;
+      writes = Appends-trans before now later run.written text run.writes writes;
       fed =
           ap (λ (c : Cutter). record c { ready = (run.played ++ line ∷ []) ++ new.ready }) taken
           ∙ ap (λ ready. record old { ready = ready }) (append_assoc run.played (line ∷ []) new.ready ∙ ap (λ ready. run.played ++ ready) (sym first))
           ∙ run.fed;
+      events = λ more.
+          ap events_from (append_assoc run.played (line ∷ []) more) ∙ run.events (line ∷ more)
+          ∙ ap (λ es. run.heard ++ es) (events_from-event line more event plays.spelled)
+          ∙ sym (append_assoc run.heard (event ∷ []) (events_from more));
       output = λ more.
-          ap (output_from s [] 1) (append_assoc run.played (line ∷ []) more) ∙ run.output (line ∷ more)
-          ∙ ap (λ text. run.written ++ text) (output_from-event s server.history number line more plays.event plays.spelled)
-          ∙ sym (append_assoc run.written printed_reply (output_from s (history_after server.history plays.event.0 plays.event.1) (number + 1) more))
-          ∙ ap (λ g. (run.written ++ printed_reply) ++ output_from s g (number + 1) more) (sym history);
+          ap (output_of s) (append_assoc run.heard (event ∷ []) more) ∙ run.output (event ∷ more)
+          ∙ ap (λ m. run.written ++ (text ++ replies_text m (play s (history_after s server.history event.0 event.1) more))) (sym (add-one number))
+          ∙ sym (append_assoc run.written text (replies_text (number + 1) (play s (history_after s server.history event.0 event.1) more)))
+          ∙ ap (λ h. (run.written ++ text) ++ replies_text (number + 1) (play s h more)) (sym history);
+      full = λ more.
+          ap (full_from s [] 1) (append_assoc run.heard (event ∷ []) more) ∙ run.full (event ∷ more)
+          ∙ full_from-room s server.history number event more room
+          ∙ ap (λ h. full_from s h (number + 1) more) (sym history);
       bad = λ more.
-          ap (bad_from 1) (append_assoc run.played (line ∷ []) more) ∙ run.bad (line ∷ more) ∙ bad_from-event number line more plays.event plays.spelled;
-      next =
-          let next = run.next in
-          let one = ap (λ (g : List Entry). length g) history in
-          omega (arith, one);
+          ap (bad_from 1) (append_assoc run.played (line ∷ []) more) ∙ run.bad (line ∷ more) ∙ bad_from-event number line more event plays.spelled;
       count = let count = run.count in omega (arith, length_push run.played line);
-      few = let few = (event_placed number line plays.event plays.spelled).most in omega (arith, few);
+      counted = let counted = run.counted in omega (arith, length_push run.heard event);
       bytes = run.bytes;
-      settings = ap (λ (v : Served). v.settings) plays.history ∙ run.settings;
+      settings = ap (λ (v : Served). v.settings) plays.goes_on ∙ run.settings;
     }
 
 -- no line was left to take
@@ -188,8 +211,14 @@ module _ {s : Settings} {left_before left_now before now : Option Bytes} {cutter
   long_is : (script_cut run.taken).is_long ≡ cutter.is_long
   long_is = ap (λ (c : Cutter). c.is_long) (sym run.fed)
 
-  output_is : output s run.taken ≡ run.written ++ output_from s server.history number cutter.ready
-  output_is = ap (output_from s [] 1) lines_are ∙ run.output cutter.ready
+  events_are : events run.taken ≡ run.heard ++ events_from cutter.ready
+  events_are = ap events_from lines_are ∙ run.events cutter.ready
+
+  output_is : output s run.taken ≡ run.written ++ replies_text number (play s server.history (events_from cutter.ready))
+  output_is = ap (output_of s) events_are ∙ run.output (events_from cutter.ready)
+
+  full_is : first_full s run.taken ≡ full_from s server.history number (events_from cutter.ready)
+  full_is = ap (full_from s [] 1) events_are ∙ run.full (events_from cutter.ready)
 
   bad_is : bad_from 1 (script_cut run.taken).lines ≡ bad_from number cutter.ready
   bad_is = ap (bad_from 1) lines_are ∙ run.bad cutter.ready
@@ -197,9 +226,27 @@ module _ {s : Settings} {left_before left_now before now : Option Bytes} {cutter
   within : length run.taken ≤ 2 ^ 30
   within = let total = run.bytes in omega arith
 
+  -- no line has a number past the most bytes
+  pub few : number ≤ 2 ^ 30 + 1
+  few =
+      let count = run.count in
+      let short = within in
+      let lines = ap (λ (ls : List Bytes). length ls) lines_are in
+      omega (arith, lines, length-append run.played cutter.ready, line_cut-few 16384 run.taken)
+
+  -- where no event is left
+  output_at : events_from cutter.ready ≡ [] → run.written ≡ output s run.taken
+  output_at none = sym (output_is ∙ ap (λ es. run.written ++ replies_text number (play s server.history es)) none ∙ append-nil run.written)
+
+  no_full_at : events_from cutter.ready ≡ [] → first_full s run.taken ≡ None
+  no_full_at none = full_is ∙ ap (full_from s server.history number) none
+
   -- where no line is left
   all_output : cutter.ready ≡ [] → run.written ≡ output s run.taken
-  all_output none = sym (output_is ∙ ap (λ lines. run.written ++ output_from s server.history number lines) none ∙ append-nil run.written)
+  all_output none = output_at (ap events_from none)
+
+  no_full : cutter.ready ≡ [] → first_full s run.taken ≡ None
+  no_full none = no_full_at (ap events_from none)
 
   no_bad : cutter.ready ≡ [] → bad_from 1 (script_cut run.taken).lines ≡ None
   no_bad none = bad_is ∙ ap (bad_from number) none
@@ -233,7 +280,7 @@ module _ {s : Settings} {left_before left_now before now : Option Bytes} {cutter
       }
 
   begins : Begins run.written (output s run.taken)
-  begins = record { rest = output_from s server.history number cutter.ready; is_whole = output_is }
+  begins = record { rest = replies_text number (play s server.history (events_from cutter.ready)); is_whole = output_is }
 
   pub ends_done : (left_end : Option Bytes) (r0 r1 w0 w1 : ℕ) → cutter.ready ≡ [] → cutter.is_long ≡ false → cutter.rest ≡ [] → Keeps left_now left_end → IsAtEnd left_end
       → Ran s left_before left_end before now r0 r1 w0 w1 Done
@@ -241,7 +288,7 @@ module _ {s : Settings} {left_before left_now before now : Option Bytes} {cutter
       let no_more : (script_cut run.taken).is_long || not (is_empty (script_cut run.taken).rest) ≡ false =
       rw (long_is ∙ short) (ap (λ (t : Bytes). not (is_empty t)) (rest_is ∙ whole)) in
       ends left_end now r0 r1 w0 w1 Done kept (Keeps-refl now)
-      (at_end, within, bad_with none _ ∙ ap (λ b. cond b (Some number) None) no_more, all_output none)
+      (at_end, within, bad_with none _ ∙ ap (λ b. cond b (Some number) None) no_more, no_full none, all_output none)
 
   pub ends_cut : (left_end : Option Bytes) (r0 r1 w0 w1 : ℕ) → cutter.ready ≡ [] → 0 < length cutter.rest → Keeps left_now left_end → IsAtEnd left_end
       → Ran s left_before left_end before now r0 r1 w0 w1 (BadScript number)
@@ -249,18 +296,18 @@ module _ {s : Settings} {left_before left_now before now : Option Bytes} {cutter
       let more : (script_cut run.taken).is_long || not (is_empty (script_cut run.taken).rest) ≡ true =
       or_right (script_cut run.taken).is_long (not (is_empty (script_cut run.taken).rest)) (ap (λ (t : Bytes). not (is_empty t)) rest_is ∙ not_empty cutter.rest open_yet) in
       ends left_end now r0 r1 w0 w1 (BadScript number) kept (Keeps-refl now)
-      (inr (at_end, bad_with none _ ∙ ap (λ b. cond b (Some number) None) more), within, all_output none)
+      (inr (at_end, bad_with none _ ∙ ap (λ b. cond b (Some number) None) more), within, no_full none, all_output none)
 
   pub ends_long : (r0 r1 w0 w1 : ℕ) → cutter.ready ≡ [] → cutter.is_long ≡ true
       → Ran s left_before left_now before now r0 r1 w0 w1 (BadScript number)
   ends_long r0 r1 w0 w1 none long =
       ends left_now now r0 r1 w0 w1 (BadScript number) (Keeps-refl left_now) (Keeps-refl now)
-      (inl (bad_with none _ ∙ ap (λ b. cond b (Some number) None) (long_is ∙ long)), within, all_output none)
+      (inl (bad_with none _ ∙ ap (λ b. cond b (Some number) None) (long_is ∙ long)), within, no_full none, all_output none)
 
   pub ends_read : (left_end : Option Bytes) (r0 r1 w0 w1 : ℕ) → cutter.ready ≡ [] → cutter.is_long ≡ false → Keeps left_now left_end → Rose r0 r1
       → Ran s left_before left_end before now r0 r1 w0 w1 ReadFault
   ends_read left_end r0 r1 w0 w1 none short kept rose =
-      ends left_end now r0 r1 w0 w1 ReadFault kept (Keeps-refl now) (rose, none_bad none short, all_output none)
+      ends left_end now r0 r1 w0 w1 ReadFault kept (Keeps-refl now) (rose, none_bad none short, no_full none, all_output none)
 
   pub ends_much : (left_end : Option Bytes) (r0 r1 w0 w1 : ℕ) → cutter.ready ≡ [] → cutter.is_long ≡ false → budget ≡ 0 → ReadsOne left_now left_end
       → Ran s left_before left_end before now r0 r1 w0 w1 LongScript
@@ -276,30 +323,49 @@ module _ {s : Settings} {left_before left_now before now : Option Bytes} {cutter
         ends = (
           omega (arith, length_push run.taken one.byte),
           ap first_bad front ∙ none_bad none short,
+          ap (first_full s) front ∙ no_full none,
           all_output none ∙ sym (ap (output s) front),
         );
       }
 
   -- the line before the lines that are left
-  pub ends_bad : (now_end : Option Bytes) (r0 r1 w0 w1 : ℕ) (line : Bytes) (rest : List Bytes) → cutter.ready ≡ line ∷ rest → event_of number line ≡ None → Keeps now now_end
+  pub ends_bad : (now_end : Option Bytes) (r0 r1 w0 w1 : ℕ) (line : Bytes) (rest : List Bytes) → cutter.ready ≡ line ∷ rest → event_of line ≡ None → Keeps now now_end
       → Ran s left_before left_now before now_end r0 r1 w0 w1 (BadScript number)
   ends_bad now_end r0 r1 w0 w1 line rest first bad held =
       ends left_now now_end r0 r1 w0 w1 (BadScript number) (Keeps-refl left_now) held (
         inl (ap (λ o. or_bad o (script_cut run.taken).is_long (suc (length (script_cut run.taken).lines)))
             (bad_is ∙ ap (bad_from number) first ∙ bad_from-none number line rest bad)),
         within,
-        sym (output_is ∙ ap (λ lines. run.written ++ output_from s server.history number lines) first
-            ∙ ap (λ text. run.written ++ text) (output_from-none s server.history number line rest bad) ∙ append-nil run.written),
+        no_full_at (ap events_from first ∙ events_from-none line rest bad),
+        output_at (ap events_from first ∙ events_from-none line rest bad),
       )
+
+  -- the line before the lines that are left meets a full history
+  pub ends_full : (now_end : Option Bytes) (r0 r1 w0 w1 : ℕ) (line : Bytes) (rest : List Bytes) → cutter.ready ≡ line ∷ rest → MeetsFull line server now now_end
+      → Ran s left_before left_now before now_end r0 r1 w0 w1 Full
+  ends_full now_end r0 r1 w0 w1 line rest first meets =
+      let next : events_from cutter.ready ≡ meets.event ∷ events_from rest = ap events_from first ∙ events_from-event line rest meets.event meets.spelled in
+      let full : is_full s server.history ≡ true = subst (λ t. is_full t server.history ≡ true) run.settings meets.full in
+      let counted = run.counted in
+      let before_it : take (number - 1) (events run.taken) ≡ run.heard =
+      ap (take (number - 1)) events_are ∙ take_at run.heard (events_from cutter.ready) (number - 1) (omega arith) in
+      ends left_now now_end r0 r1 w0 w1 Full (Keeps-refl left_now) meets.keeps (record {
+        line = number;
+        meets = full_is ∙ ap (full_from s server.history number) next ∙ full_from-full s server.history number meets.event (events_from rest) full;
+        short = within;
+        writes = sym (ap (output_of s) (before_it ∙ sym (append-nil run.heard)) ∙ run.output [] ∙ append-nil run.written);
+      })
 
   pub ends_write : (now_end : Option Bytes) (r0 r1 w0 w w1 : ℕ) (line : Bytes) (rest : List Bytes) → cutter.ready ≡ line ∷ rest → w0 ≤ w → PlaysFront number line server now now_end w w1
       → Ran s left_before left_now before now_end r0 r1 w0 w1 WriteFault
   ends_write now_end r0 r1 w0 w w1 line rest first later plays =
-      let printed_reply = printed number (reply s server.history plays.event.0 plays.event.1) in
+      let event = plays.event in
+      let text = reply_text number (reply s server.history event.0 event.1) in
       let front = plays.front.front in
-      let more = output_from s (history_after server.history plays.event.0 plays.event.1) (number + 1) rest in
-      let same : printed_reply ≡ front ++ plays.front.begins.rest =
-      ap (λ t. printed number (reply t server.history plays.event.0 plays.event.1)) (sym run.settings) ∙ plays.front.begins.is_whole in
+      let more = replies_text (suc number) (play s (history_after s server.history event.0 event.1) (events_from rest)) in
+      let next : events_from cutter.ready ≡ event ∷ events_from rest = ap events_from first ∙ events_from-event line rest event plays.spelled in
+      let same : text ≡ front ++ plays.front.begins.rest =
+      ap (λ t. reply_text number (reply t server.history event.0 event.1)) (sym run.settings) ∙ plays.front.begins.is_whole in
       record {
         read = run.taken;
         written = run.written ++ front;
@@ -310,9 +376,9 @@ module _ {s : Settings} {left_before left_now before now : Option Bytes} {cutter
           record {
             rest = plays.front.begins.rest ++ more;
             is_whole =
-                output_is ∙ ap (λ lines. run.written ++ output_from s server.history number lines) first
-                ∙ ap (λ text. run.written ++ text) (output_from-event s server.history number line rest plays.event plays.spelled ∙ ap (λ text. text ++ more) same)
-                ∙ ap (λ text. run.written ++ text) (append_assoc front plays.front.begins.rest more)
+                output_is ∙ ap (λ es. run.written ++ replies_text number (play s server.history es)) next
+                ∙ ap (λ t. run.written ++ (t ++ more)) same
+                ∙ ap (λ t. run.written ++ t) (append_assoc front plays.front.begins.rest more)
                 ∙ sym (append_assoc run.written front (plays.front.begins.rest ++ more));
           },
         );
@@ -333,8 +399,10 @@ module _ {s : Settings} {left_before left_now before now : Option Bytes} {cutter
         writes = run.writes;
         ends =
             record {
-              rest = output_from s server.history number (after_feed cutter some.bytes).ready;
-              is_whole = ap (output_from s [] 1) lines ∙ run.output (after_feed cutter some.bytes).ready;
+              rest = replies_text number (play s server.history (events_from (after_feed cutter some.bytes).ready));
+              is_whole =
+                  ap (output_of s) (ap events_from lines ∙ run.events (after_feed cutter some.bytes).ready)
+                  ∙ run.output (events_from (after_feed cutter some.bytes).ready);
             };
       }
 

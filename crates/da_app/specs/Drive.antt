@@ -10,12 +10,8 @@ use Rattle.da_outside.specs.declared.faults.Got.TheVariants.{Fault as GotFault}
 use Rattle.da_hist.specs.declared.settings.Settings.{Settings}
 use Rattle.da_app.specs.declared.status.Status.{Status}
 use Rattle.da_app.specs.declared.status.Status.TheVariants.{Done, Usage, NoSettings, NoMemory, BadSettings}
-use Rattle.da_config.specs.declared.fault.FaultKind.TheVariants.{Range}
-use Rattle.da_config.specs.declared.fault.ConfigFault.{ConfigFault}
-use Rattle.da_config.specs.declared.fault.ConfigFault.TheVariants.{Bad, NoMemory as TextNoMemory}
-use Rattle.da_config.specs.SettingsText.{fault_at_all}
-use Rattle.da_app.specs.Settings.{settings_of}
-use Rattle.da_app.specs.Script.{first_bad_at_end}
+use Rattle.da_config.specs.SettingsText.{settings_of}
+use Rattle.da_app.specs.Script.{first_bad_at_end, first_full}
 use Rattle.da_app.specs.Play.{Ran}
 
 -- the outside as it was at one moment: the files held and the reads made, the input left and the output, as far as they
@@ -61,8 +57,8 @@ Drives (Some path) before now status = RunsWith path before now status
 
 -- ---- completeness
 
--- a file with settings, an input of at most 1,073,741,824 bytes whose lines are all events, each ended by LF, and no
--- fault
+-- a file with settings, an input of at most 1,073,741,824 bytes whose lines are all events, each ended by LF, no event
+-- that meets a full history, and no fault
 pub record IsGood (path : Bytes) (before now : Outside) : Type 0 where
   pub files : List File
   pub held : before.held ≡ Some files
@@ -72,6 +68,7 @@ pub record IsGood (path : Bytes) (before now : Outside) : Type 0 where
   pub left : before.left ≡ Some input
   pub short : length input ≤ 2 ^ 30
   pub events : first_bad_at_end input ≡ None
+  pub has_room : first_full settings input ≡ None
   pub file_sound : Rose before.file_faults now.file_faults → ⊥
   pub source_sound : Rose before.read_faults now.read_faults → ⊥
   pub sink_sound : Rose before.write_faults now.write_faults → ⊥
@@ -85,14 +82,3 @@ IsDone _ = ⊥
 abbrev pub Completes : Option Bytes → Outside → Outside → Status → Type 0
 Completes None before now status = ⊤
 Completes (Some path) before now status = IsGood path before now → IsDone status
-
--- the status of a text that is too long, or want of memory
-abbrev pub IsTooLong : Status → Type 0
-IsTooLong (BadSettings fault) = fault ≡ fault_at_all Range
-IsTooLong NoMemory = ⊤
-IsTooLong _ = ⊥
-
--- the status of a text that gave no settings
-abbrev pub fault_status : ConfigFault → Status
-fault_status (Bad fault) = BadSettings fault
-fault_status TextNoMemory = NoMemory

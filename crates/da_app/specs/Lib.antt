@@ -1,7 +1,4 @@
 pub mod Words
-pub mod Settings
-pub mod Events
-pub mod Print
 pub mod Script
 pub mod Play
 pub mod Drive

@@ -1,31 +1,18 @@
--- A script as a text: its lines, its events, and the first line that is none.
+-- A script as a text: its first line that is no event, its first event that meets a full history, and its output.
 use Rattle.std.specs.Prelude.{ℕ, suc, Bool, ◌||◌, not, List, [], ◌∷◌, length, Option, Some, None, if◌then◌else◌, is_some}
 use Rattle.da_base.specs.Words.{Bytes, is_empty}
-use Rattle.da_tabline.specs.Lines.{LineCut, line_cut}
 use Rattle.da_hist.specs.declared.settings.Settings.{Settings}
-use Rattle.da_hist.specs.declared.input.Input.{Input}
 use Rattle.da_hist.specs.declared.input.Entry.{Entry}
-use Rattle.da_hist.specs.FirstLoginPlay.{play}
-use Rattle.da_app.specs.Events.{event_of}
-use Rattle.da_app.specs.Print.{printed_from}
+use Rattle.da_hist.specs.Legal.{is_full}
+use Rattle.da_hist.specs.Play.{Event, history_after, play}
+use Rattle.da_script.specs.Events.{event_of}
+use Rattle.da_script.specs.Scripts.{script_cut, events}
+use Rattle.da_script.specs.Replies.{replies_text}
 
--- a line of a script has at most 16,384 bytes
-abbrev pub script_cut : Bytes → LineCut
-script_cut bytes = line_cut 16384 bytes
-
-abbrev pub with_event : Option (ℕ × Input) → List (ℕ × Input) → List (ℕ × Input)
-with_event None events = []
-with_event (Some event) events = event ∷ events
-
--- the events of lines, from line n on, up to the first line that is none
-abbrev pub events_from : ℕ → List Bytes → List (ℕ × Input)
-events_from n [] = []
-events_from n (line ∷ lines) = with_event (event_of n line) (events_from (suc n) lines)
-
--- the number of the first line that is no event
+-- the number of the first line that is no event, where the first of these lines has the number n
 abbrev pub bad_from : ℕ → List Bytes → Option ℕ
 bad_from n [] = None
-bad_from n (line ∷ lines) = if is_some (event_of n line) then bad_from (suc n) lines else Some n
+bad_from n (text ∷ texts) = if is_some (event_of text) then bad_from (suc n) texts else Some n
 
 abbrev pub or_bad : Option ℕ → Bool → ℕ → Option ℕ
 or_bad (Some n) is_bad next = Some n
@@ -41,10 +28,21 @@ first_bad_at_end bytes =
     or_bad (bad_from 1 (script_cut bytes).lines) ((script_cut bytes).is_long || not (is_empty (script_cut bytes).rest))
     (suc (length (script_cut bytes).lines))
 
--- what is written for lines, from line n on, after this history
-abbrev pub output_from : Settings → List Entry → ℕ → List Bytes → Bytes
-output_from settings g n lines = printed_from n (play settings g (events_from n lines))
+-- the number of the first event that meets a full history, where the first of these events has the number n and comes
+-- after this history
+abbrev pub full_from : Settings → List Entry → ℕ → List Event → Option ℕ
+full_from settings h n [] = None
+full_from settings h n (event ∷ events) =
+    if is_full settings h then Some n else full_from settings (history_after settings h event.0 event.1) (suc n) events
 
--- what is written for a script: the printed replies of the server to its events
+-- the number of the first line that is an event and meets a full history, where no line before it is off the grammar
+abbrev pub first_full : Settings → Bytes → Option ℕ
+first_full settings bytes = full_from settings [] 1 (events bytes)
+
+-- the printed replies of the server to events
+abbrev pub output_of : Settings → List Event → Bytes
+output_of settings events = replies_text 1 (play settings [] events)
+
+-- what is written for a script: the printed replies to its events, up to the first line that is none
 abbrev pub output : Settings → Bytes → Bytes
-output settings bytes = output_from settings [] 1 (script_cut bytes).lines
+output settings bytes = output_of settings (events bytes)

@@ -6,7 +6,10 @@ use Rattle.da_outside.specs.Files.{bytes_at}
 use Rattle.da_outside.specs.Past.{Gains}
 use Rattle.da_outside.specs.declared.faults.Got.TheVariants.{Given, Fault as GotFault}
 use Rattle.da_hist.specs.declared.settings.Settings.{Settings}
-use Rattle.da_config.specs.SettingsText.{settings_of}
+use Rattle.da_config.specs.declared.fault.FaultKind.TheVariants.{Range}
+use Rattle.da_config.specs.declared.fault.ConfigFault.{ConfigFault}
+use Rattle.da_config.specs.declared.fault.ConfigFault.TheVariants.{Bad, NoMemory as TextNoMemory}
+use Rattle.da_config.specs.SettingsText.{settings_of, fault_at_all}
 use Rattle.da_worker.specs.Turns.{Told, ReadsFiles}
 use Rattle.da_app.specs.declared.status.Status.{Status}
 use Rattle.da_app.specs.declared.status.Status.TheVariants.{NoSettings, NoMemory, BadSettings}
@@ -33,3 +36,14 @@ ReadsSettings path before now (Err NoSettings) = PathFails path before now
 ReadsSettings path before now (Err (BadSettings fault)) = IfSome before.held (λ files. settings_of (bytes_at files path) ≡ Err fault)
 ReadsSettings path before now (Err NoMemory) = ⊤
 ReadsSettings path before now (Err _) = ⊥
+
+-- the status of a text that is too long, or want of memory
+abbrev pub IsTooLong : Status → Type 0
+IsTooLong (BadSettings fault) = fault ≡ fault_at_all Range
+IsTooLong NoMemory = ⊤
+IsTooLong _ = ⊥
+
+-- the status of a text that gave no settings
+abbrev pub fault_status : ConfigFault → Status
+fault_status (Bad fault) = BadSettings fault
+fault_status TextNoMemory = NoMemory

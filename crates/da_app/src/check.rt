@@ -4,7 +4,6 @@ ghost use Rattle.std.specs.Prelude.{◌≡◌, map, string_bytes, Some, IfOk};
 ghost use Rattle.da_app.specs.Words.{check_path};
 ghost use Rattle.da_app.specs.Check.{counts_line, Tells, Checks, CompletesCheck};
 
-use crate::print::push_number;
 use crate::settings_file::read_settings;
 use crate::status::Status;
 use crate::words::path_of_check;
@@ -40,9 +39,9 @@ fn counts(alloc: Global, settings: &Settings) -> Result<Vec<u8>, AllocError>
     ensures { IfOk result (λ text. text.items ≡ counts_line settings.now) }
 {
     let mut text = Vec::from_slice(alloc, b"ok ")?;
-    push_number(&mut text, alloc, settings.passdb.all().len() as u64)?;
+    text.extend_from_slice(settings.passdb.all().len().to_string(alloc)?.as_bytes())?;
     text.extend_from_slice(b" ")?;
-    push_number(&mut text, alloc, settings.userdb.all().len() as u64)?;
+    text.extend_from_slice(settings.userdb.all().len().to_string(alloc)?.as_bytes())?;
     text.extend_from_slice(b"\n")?;
     Ok(text)
 }

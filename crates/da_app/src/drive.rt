@@ -2,18 +2,18 @@
 
 ghost use Rattle.std.specs.Prelude.{◌≡◌, map, string_bytes, Some};
 ghost use Rattle.da_app.specs.Words.{drive_path};
-ghost use Rattle.da_app.specs.Drive.{Drives, Completes, IsTooLong, fault_status};
+ghost use Rattle.da_app.specs.Drive.{Drives, Completes};
 
 use crate::play::play_script;
-use crate::settings::{SETTINGS_MAX, fault_of_text, read};
+use crate::settings_file::read_settings;
 use crate::status::Status;
 use crate::words::path_of_drive;
-use da_config::{ConfigFault, FaultKind};
-use da_outside::{Files, GetFault, Sink, Source};
+use da_outside::{Files, Sink, Source};
 use std::alloc::Global;
 
 /// `drive PATH`: reads the settings from the file at PATH, plays the script of the input, and writes the reply to each
-/// event before the next line is read.
+/// event before the next line is read. An event that is refused gets its line, and the play goes on; one that meets a
+/// full history gets none and ends it.
 pub fn run_drive<S: Source, K: Sink, F: Files>(
     alloc: Global,
     words: &[String],
@@ -36,26 +36,6 @@ pub fn run_drive<S: Source, K: Sink, F: Files>(
     }
 }
 
-/// The status of a text that gave no settings.
-pub fn status_of_fault(fault: ConfigFault) -> Status
-    ensures { result ≡ fault_status fault }
-{
-    match fault {
-        ConfigFault::Bad(fault) => Status::BadSettings { fault },
-        ConfigFault::NoMemory => Status::NoMemory,
-    }
-}
-
-/// The status of a text that is too long, or want of memory.
-pub fn long_text(alloc: Global) -> Status
-    ensures { IsTooLong result }
-{
-    match fault_of_text(alloc, FaultKind::Range) {
-        Ok(fault) => Status::BadSettings { fault },
-        Err(_) => Status::NoMemory,
-    }
-}
-
 fn drive_at<S: Source, K: Sink, F: Files>(
     alloc: Global,
     path: &[u8],
@@ -68,14 +48,8 @@ fn drive_at<S: Source, K: Sink, F: Files>(
         (record { held = F.held files.new; past = F.past files.new; left = S.left input.new; contents = K.contents output.new; file_faults = F.faults files.new; read_faults = S.faults input.new; write_faults = K.faults output.new })
         result }
 {
-    let text = match files.read(alloc, path, SETTINGS_MAX) {
-        Ok(text) => text,
-        Err(GetFault::Failed) => return Status::NoSettings,
-        Err(GetFault::Long) => return long_text(alloc),
-        Err(GetFault::NoMemory) => return Status::NoMemory,
-    };
-    match read(alloc, &text) {
+    match read_settings(alloc, path, files) {
         Ok(settings) => play_script(alloc, settings, input, output),
-        Err(fault) => status_of_fault(fault),
+        Err(status) => status,
     }
 }

@@ -8,12 +8,9 @@
 mod check;
 mod commands;
 mod drive;
-mod events;
 mod gather;
 mod play;
-mod print;
 mod pw;
-mod settings;
 mod settings_file;
 mod status;
 mod words;

@@ -1,16 +1,15 @@
 // The play of a script.
 
-ghost use Rattle.std.specs.Prelude.{◌≡◌, ◌+◌, ◌≤◌, length};
-ghost use Rattle.da_app.specs.Play.{Plays, Ran};
+ghost use Rattle.std.specs.Prelude.{◌≡◌, ℕ, List, IfOk};
+ghost use Rattle.da_app.specs.Play.{Plays, Ran, WritesReply, ending};
 
-use crate::events::read_event;
-use crate::print::print_outputs;
 use crate::status::Status;
-use da_hist::{Plain, Settings};
+use da_hist::{Plain, Refused, Settings};
 use da_outside::{Sink, Source};
+use da_script::{print_outputs, print_refused, read_event};
 use da_tabline::Lines;
 use da_worker::{Fill, read_into, write_all};
-use std::alloc::Global;
+use std::alloc::{AllocError, Global};
 
 /// The most bytes that a line of a script may have.
 const SCRIPT_LINE_MAX: usize = 16384;
@@ -21,10 +20,12 @@ const INPUT_MAX: usize = 1_073_741_824;
 /// How the play of one line ended.
 #[derive(Clone, Copy, Drop)]
 pub enum Turn {
-    /// Its event was played, and the reply to it written.
+    /// Its event was played or refused, and the reply to it written.
     Played,
     /// It is no event.
     NotEvent,
+    /// Its event meets a full history, and nothing was written.
+    Full,
     /// The output failed.
     WriteFault,
     /// Memory was wanted, and nothing was written.
@@ -38,18 +39,42 @@ fn play_line<K: Sink>(
     line: &[u8],
     output: &mut K,
 ) -> Turn
-    requires { number ≡ length server.old.history + 1 }
     ensures { Plays number line.now server.old server.new (K.contents output.old) (K.contents output.new) (K.faults output.old) (K.faults output.new) result }
 {
-    let event = match read_event(alloc, number, line) {
+    let event = match read_event(alloc, line) {
         Ok(Some(event)) => event,
         Ok(None) => return Turn::NotEvent,
         Err(_) => return Turn::NoMemory,
     };
-    let Ok(outputs) = server.step(event.0, event.1) else {
-        return Turn::NoMemory;
-    };
-    let Ok(text) = print_outputs(alloc, number, &outputs) else {
+    match server.step(event.0, event.1) {
+        Ok(outputs) => write_reply(print_outputs(alloc, number, &outputs), output),
+        Err(refused) => match ending(refused) {
+            Some(turn) => turn,
+            None => write_reply(print_refused(alloc, number, &refused), output),
+        },
+    }
+}
+
+/// How a line's play ends at once, where its event is refused so. The other refusals are printed, and the play goes on.
+fn ending(refused: Refused) -> Option<Turn>
+    ensures { result ≡ ending refused }
+{
+    match refused {
+        Refused::HistoryFull => Some(Turn::Full),
+        Refused::NoMemory => Some(Turn::NoMemory),
+        Refused::ConnLimit { .. }
+        | Refused::NoConn { .. }
+        | Refused::NothingWaits
+        | Refused::NotTaken { .. }
+        | Refused::NotLate { .. } => None,
+    }
+}
+
+/// Writes a printed reply, where there was memory to print it.
+fn write_reply<K: Sink>(text: Result<Vec<u8>, AllocError>, output: &mut K) -> Turn
+    ensures { (reply : List ℕ) → IfOk text (λ t. t.items ≡ reply) → WritesReply reply (K.contents output.old) (K.contents output.new) (K.faults output.old) (K.faults output.new) result }
+{
+    let Ok(text) = text else {
         return Turn::NoMemory;
     };
     match write_all(output, &text) {
@@ -58,7 +83,8 @@ fn play_line<K: Sink>(
     }
 }
 
-/// Plays the events of the input, one after another, and writes the reply to each before the next line is read.
+/// Plays the events of the input, one after another, and writes the reply to each before the next line is read. The
+/// first event that meets a full history ends the play.
 pub fn play_script<S: Source, K: Sink>(
     alloc: Global,
     settings: Settings,
@@ -79,6 +105,7 @@ pub fn play_script<S: Source, K: Sink>(
             match play_line(alloc, &mut server, number, &line, output) {
                 Turn::Played => number += 1,
                 Turn::NotEvent => return Status::BadScript { line: number },
+                Turn::Full => return Status::Full,
                 Turn::WriteFault => return Status::WriteFault,
                 Turn::NoMemory => return Status::NoMemory,
             }

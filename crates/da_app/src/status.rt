@@ -3,7 +3,6 @@
 ghost use Rattle.std.specs.Prelude.{◌≡◌, ◌++◌, codes, decimal, IfOk};
 ghost use Rattle.da_app.specs.Statuses.{status_code, status_words, kind_words};
 
-use crate::print::push_number;
 use da_config::{Fault, FaultKind};
 use std::alloc::{AllocError, Global};
 
@@ -91,7 +90,7 @@ fn line_words(alloc: Global, line: u64) -> Result<Vec<u8>, AllocError>
     ensures { IfOk result (λ words. words.items ≡ codes "line " ++ decimal line ++ codes " is not an event") }
 {
     let mut words = Vec::from_slice(alloc, b"line ")?;
-    push_number(&mut words, alloc, line)?;
+    words.extend_from_slice(line.to_string(alloc)?.as_bytes())?;
     words.extend_from_slice(b" is not an event")?;
     Ok(words)
 }

@@ -71,7 +71,7 @@ cut_from-few max begun (c ∷ cs) =
       | inr e ↦ let few = cut_from-few max (begun ++ c ∷ []) cs in rw e (omega arith)
     ]
 
-line_cut-few : (max : ℕ) (bytes : Bytes) → length (line_cut max bytes).lines ≤ length bytes
+pub line_cut-few : (max : ℕ) (bytes : Bytes) → length (line_cut max bytes).lines ≤ length bytes
 line_cut-few max bytes = rw (line_cut-append max [] bytes (All-nil (λ x. eqb x 10 ≡ false))) (cut_from-few max [] bytes)
 
 -- ---- the run goes on

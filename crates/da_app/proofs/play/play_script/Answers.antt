@@ -2,7 +2,7 @@ use Rattle.std.proofs.Common.{◌≡◌, length, List, [], ◌∷◌, None, sym,
 use Rattle.da_base.specs.Words.{Bytes}
 use Rattle.da_tabline.specs.Lines.{Cutter}
 use Rattle.da_outside.specs.Causes.{Rose}
-use Rattle.da_app.proofs.Running.{started, running_fed, running_played, idle, ends_done, ends_cut, ends_long, ends_read, ends_much, ends_bad, ends_write, ends_memory, ends_unfed}
+use Rattle.da_app.proofs.Running.{started, running_fed, running_played, idle, few, ends_done, ends_cut, ends_long, ends_read, ends_much, ends_bad, ends_full, ends_write, ends_memory, ends_unfed}
 use Rattle.da_app.proofs.play.play_script.Goals as goal
 
 pub returns-in_default : goal.returns-in_default
@@ -22,17 +22,20 @@ read-init g c =
 pub lines-init : goal.lines-init
 lines-init g c = c.read.invariant
 
-pub play_line-requires : goal.play_line-requires
-play_line-requires g c = c.lines.invariant.run.next
-
 pub overflow_add-number : goal.overflow_add-number
-overflow_add-number g c = let few = c.lines.invariant.run.few in omega arith
+overflow_add-number g c = omega (arith, few c.lines.invariant.run)
 
 pub returns-in-NotEvent : goal.returns-in-NotEvent
 returns-in-NotEvent g c =
     ends_bad c.lines.invariant.run _ _ _ _ _ c.deref.result.now c.next.new.self.ready
     (c.in-Some.ensures.line ∙ ap (λ (line : Bytes). line ∷ c.next.new.self.ready) (sym c.deref.ensures.value))
     c.in-NotEvent.ensures.0 c.in-NotEvent.ensures.1
+
+pub returns-in-Full : goal.returns-in-Full
+returns-in-Full g c =
+    ends_full c.lines.invariant.run _ _ _ _ _ c.deref.result.now c.next.new.self.ready
+    (c.in-Some.ensures.line ∙ ap (λ (line : Bytes). line ∷ c.next.new.self.ready) (sym c.deref.ensures.value))
+    c.in-Full.ensures
 
 pub returns-in-WriteFault : goal.returns-in-WriteFault
 returns-in-WriteFault g c =
