@@ -75,7 +75,7 @@ fn each_end_has_its_status_and_its_output(rt: HostRuntime) -> Result<(), Fail> {
     let alloc = rt.alloc();
     let right = a_run(SCRIPT);
     let empty = a_run(b"");
-    let no_event = a_run(b"1000 open client -\n1001 line 1 - VERSION\t1\t1\n1002 take\n");
+    let no_event = a_run(b"1000 open client -\n1001 line 1 - VERSION\t1\t1\n1002 ti\n");
     let cut = a_run(b"1000 open client -\n1001 ti");
     let words = Run {
         words: &["drive"],
@@ -86,7 +86,11 @@ fn each_end_has_its_status_and_its_output(rt: HostRuntime) -> Result<(), Fail> {
         ..a_run(SCRIPT)
     };
     let settings = Run {
-        settings: b"failure_delay = 1\n",
+        settings: b"failure_delay = 60001\n",
+        ..a_run(SCRIPT)
+    };
+    let full = Run {
+        settings: b"history_entries = 1\n",
         ..a_run(SCRIPT)
     };
     let read = Run {
@@ -105,6 +109,7 @@ fn each_end_has_its_status_and_its_output(rt: HostRuntime) -> Result<(), Fail> {
         (&words, 64, b"".as_slice()),
         (&missing, 66, b"".as_slice()),
         (&settings, 78, b"".as_slice()),
+        (&full, 75, GREETING),
         (&read, 74, GREETING),
         (&write, 74, GREETING),
     ];
@@ -130,7 +135,7 @@ fn the_words_name_the_line_and_the_fault(rt: HostRuntime) -> Result<(), Fail> {
     let words = status.words(alloc)?;
     assert_eq!(rt;
         words.as_slice(),
-        b"bad settings at settings: unknown".as_slice()
+        b"bad settings at colour: unknown".as_slice()
     );
     Ok(())
 }
