@@ -9,7 +9,7 @@ fn addresses_are_read_as_they_are_spelled(rt: HostRuntime) {
         ("256.0.0.1", None),
         ("1.2.3", None),
         ("1.2.3.4.5", None),
-        ("1.02.3.4", None),
+        ("1.2.3.04", None),
         ("1.2.3.4 ", None),
         ("", None),
         ("::", Some(Ip::V6(0))),
