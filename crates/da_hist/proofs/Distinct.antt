@@ -13,8 +13,8 @@ use Rattle.da_hist.proofs.OpenQueries.{AllAsked, history_asked, due_all_asked, n
 use Rattle.da_hist.proofs.Rows.{of_changed, of_appended, of_mapped, passing, nth-changed, mapped_value}
 use Rattle.da_hist.proofs.Standing.{heard_stands, moved_stands, due_stand, tables_later, all_same}
 use Rattle.da_base.specs.Words.{nth, changed_nth, passes_option, count_where, option_or_else}
-use Rattle.da_cache.specs.Keys.{same_key}
-use Rattle.da_cache.specs.declared.key.Key.{Key}
+use Rattle.da_keys.specs.Keys.{same_key}
+use Rattle.da_keys.specs.declared.key.Key.{Key}
 use Rattle.da_fields.specs.Answers.{Answers, answer_from}
 use Rattle.da_fields.specs.declared.answer.Answer.{Answer}
 use Rattle.da_hist.specs.History.{state, after, heard, with_due_replied, with_decision, replied_if_due}

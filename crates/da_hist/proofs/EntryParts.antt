@@ -15,7 +15,7 @@ use Rattle.da_msgs.specs.declared.client.ClientMsg.{ClientMsg}
 use Rattle.da_msgs.specs.declared.client.ClientMsg.TheVariants.{Version, Pid, Auth, Cont, Cancel, Other}
 use Rattle.da_msgs.specs.declared.master.MasterMsg.{MasterMsg}
 use Rattle.da_msgs.specs.declared.master.MasterMsg.TheVariants.{Version as MasterVersion, Request as LookupRequest, Other as MasterOther}
-use Rattle.da_cache.specs.Keys.{with_key}
+use Rattle.da_keys.specs.Keys.{with_key}
 use Rattle.da_hist.specs.Connections.{client_may, master_may, request_number}
 use Rattle.da_hist.specs.Grants.{granted}
 use Rattle.da_hist.specs.History.{after, heard, settled, moved, keeps, kept_for, follows_for, follows_from, with_decision, with_due_replied, taken}

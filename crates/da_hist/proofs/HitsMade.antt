@@ -4,7 +4,7 @@ use Rattle.std.proofs.lemmas.Option.{none-some, same_Some}
 use Rattle.std.proofs.lemmas.List.{length-map}
 use Rattle.da_hist.proofs.Entries.{by_test, and_second}
 use Rattle.da_base.specs.Words.{Bytes, is_empty, nth, passes_option, option_or_else, count_where}
-use Rattle.da_cache.specs.Keys.{has_key}
+use Rattle.da_keys.specs.Keys.{has_key}
 use Rattle.da_fields.specs.Answers.{Answers, answer_from, rule_for, is_success}
 use Rattle.da_fields.specs.FieldList.{userdb_part}
 use Rattle.da_fields.specs.declared.answer.Answer.{Answer}

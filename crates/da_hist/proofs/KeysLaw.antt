@@ -10,8 +10,8 @@ use Rattle.da_hist.proofs.Keys.{keys_equal, key_is, not_without, without_has, fi
 use Rattle.da_hist.proofs.Rows.{passing, mapped_value, nth-changed}
 use Rattle.da_hist.proofs.Standing.{heard_stands, moved_stands, due_stand, tables_later, all_same}
 use Rattle.da_base.specs.Words.{nth, changed_nth, passes_option, count_where}
-use Rattle.da_cache.specs.Keys.{same_key, has_key, without_key, key_first, with_key}
-use Rattle.da_cache.specs.declared.key.Key.{Key}
+use Rattle.da_keys.specs.Keys.{same_key, has_key, without_key, key_first, with_key}
+use Rattle.da_keys.specs.declared.key.Key.{Key}
 use Rattle.da_fields.specs.declared.answer.Answer.{Answer}
 use Rattle.da_hist.specs.History.{state, after, heard, with_due_replied}
 use Rattle.da_hist.specs.Hits.{AreHits, IsUsable, newest, newest_among, with_hit, hit_with}

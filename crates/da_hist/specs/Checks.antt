@@ -1,7 +1,7 @@
 -- The password check of an entry.
 use Rattle.std.specs.Prelude.{ℕ, zero, suc, ◌-◌, ◌&&◌, not, List, Option, Some, None, option_and_then, if◌then◌else◌, nat_le, ◌==◌, is_none}
 use Rattle.da_base.specs.Words.{Bytes, nth, passes_option}
-use Rattle.da_cache.specs.Keys.{has_key}
+use Rattle.da_keys.specs.Keys.{has_key}
 use Rattle.da_passdb.specs.Outcomes.{password_check}
 use Rattle.da_schemes.specs.Stored.{StoredPassword}
 use Rattle.da_fields.specs.declared.answer.Answer.{Answer}

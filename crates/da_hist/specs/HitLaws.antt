@@ -1,8 +1,8 @@
 -- Laws on the cache.
 use Rattle.std.specs.Prelude.{◌≡◌, ◌<◌, ◌≤◌, ℕ, true, List, length, Some}
 use Rattle.da_base.specs.Words.{nth, count_where}
-use Rattle.da_cache.specs.Keys.{same_key, has_key}
-use Rattle.da_cache.specs.declared.key.Key.{Key}
+use Rattle.da_keys.specs.Keys.{same_key, has_key}
+use Rattle.da_keys.specs.declared.key.Key.{Key}
 use Rattle.da_fields.specs.declared.answer.Answer.{Answer}
 use Rattle.da_hist.specs.declared.input.Entry.{Entry}
 use Rattle.da_hist.specs.declared.settings.Settings.{Settings}

@@ -1,8 +1,8 @@
 -- Hits: which answers are repeated.
 use Rattle.std.specs.Prelude.{◌≡◌, ◌<◌, ◌≤◌, ℕ, zero, suc, ◌+◌, ◌-◌, Bool, true, false, ◌&&◌, not, List, [], ◌∷◌, length, Option, Some, None, option_map, option_and_then, if◌then◌else◌, nat_le, ◌==◌}
 use Rattle.da_base.specs.Words.{nth, passes_option, option_or_else}
-use Rattle.da_cache.specs.Keys.{same_key, has_key, key_first}
-use Rattle.da_cache.specs.declared.key.Key.{Key}
+use Rattle.da_keys.specs.Keys.{same_key, has_key, key_first}
+use Rattle.da_keys.specs.declared.key.Key.{Key}
 use Rattle.da_fields.specs.declared.answer.Answer.{Answer}
 use Rattle.da_hist.specs.declared.settings.Settings.{Settings}
 use Rattle.da_hist.specs.declared.state.Asked.{Asked}

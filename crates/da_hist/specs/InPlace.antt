@@ -1,7 +1,7 @@
 -- Words for the functions that change the state in place.
 use Rattle.std.specs.Prelude.{ℕ, Bool, Option, Some, option_and_then, option_map}
-use Rattle.da_cache.specs.Keys.{key_first}
-use Rattle.da_cache.specs.declared.key.Key.{Key}
+use Rattle.da_keys.specs.Keys.{key_first}
+use Rattle.da_keys.specs.declared.key.Key.{Key}
 use Rattle.da_fields.specs.declared.answer.Answer.{Answer}
 use Rattle.da_hist.specs.declared.heard.Heard.{Heard as Told}
 use Rattle.da_hist.specs.declared.hits.Hit.{Hit}

@@ -2,9 +2,9 @@
 use Rattle.std.specs.Prelude.{ℕ, Bool, true, false, ◌&&◌, not, List, [], ◌∷◌, ◌++◌, Option, Some, None, option_and_then, if◌then◌else◌, is_some}
 use Rattle.da_base.specs.Words.{Bytes, nth, passes_option, number_where, numbers_where}
 use Rattle.da_fields.specs.Answers.{fits}
-use Rattle.da_cache.specs.Keys.{with_key}
+use Rattle.da_keys.specs.Keys.{with_key}
 use Rattle.da_passdb.specs.Outcomes.{password_test, proof_password}
-use Rattle.da_cache.specs.declared.key.Key.{Key}
+use Rattle.da_keys.specs.declared.key.Key.{Key}
 use Rattle.da_fields.specs.declared.answer.Answer.{Answer}
 use Rattle.da_fields.specs.declared.answer.Answer.TheVariants.{Found, Unknown, Internal}
 use Rattle.da_fields.specs.declared.answer.Why.TheVariants.{Malformed}

@@ -2,7 +2,7 @@
 
 ghost use Rattle.std.specs.Prelude.{◌≡◌, ◌∷◌, ◌++◌, IfOk, OnOk, option_map};
 ghost use Rattle.da_base.specs.Words.{nth, changed_nth, passes_option};
-ghost use Rattle.da_cache.specs.Keys.{same_key};
+ghost use Rattle.da_keys.specs.Keys.{same_key};
 ghost use Rattle.da_hist.specs.Hits as words;
 ghost use Rattle.da_hist.specs.InPlace.{next_hit as hit_next, repeated};
 ghost use Rattle.da_hist.specs.Queries.{key_of};
@@ -11,7 +11,7 @@ use crate::numbered::{row, row_index};
 use crate::queries::{add_answer, add_test, answer_in_row, key_of as key_for, life, use_test};
 use crate::settings::Settings;
 use crate::state::{Asked, Queries, Question, Request, Stage, State, Tests};
-use da_cache::{Key, has_key, is_same_kind, key_first};
+use da_keys::{Key, has_key, is_same_kind, key_first};
 use da_fields::Answer;
 use std::alloc::{AllocError, Global};
 

@@ -1,7 +1,7 @@
 // Queries: which wait, which run, and what is recorded of their answers.
 
 ghost use Rattle.std.specs.Prelude.{◌≡◌, ◌<◌, ◌-◌, ◌^◌, ◌∷◌, Bool, List, Some, IfOk, OnOk, length, not};
-ghost use Rattle.da_cache.specs.Keys.{with_key as keys_with};
+ghost use Rattle.da_keys.specs.Keys.{with_key as keys_with};
 ghost use Rattle.da_base.specs.Words.{nth, changed_nth, passes_option};
 ghost use Rattle.da_hist.specs.InPlace.{answered_with, heard_in};
 ghost use Rattle.da_hist.specs.Queries as words;
@@ -16,7 +16,7 @@ use crate::heard::Heard;
 use crate::numbered::{row, row_index};
 use crate::settings::Settings;
 use crate::state::{Asked, Body, Queries, Question, Request, Requests, State, Tests};
-use da_cache::{Key, with_key};
+use da_keys::{Key, with_key};
 use da_fields::{Answer, Query, QueryKind, Text, Why};
 use da_passdb::{Login, Proof, password_test};
 use da_query::fit;

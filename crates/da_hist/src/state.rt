@@ -1,7 +1,7 @@
 // The tables of the server: what is known of connections, requests and queries at the end of a history.
 
 use crate::lists::{Numbers, Texts};
-use da_cache::Key;
+use da_keys::Key;
 use da_fields::{Answer, Fields, QueryKind, Text};
 use da_msgs::ConnKind;
 use da_userdb::Lookup;
@@ -208,7 +208,7 @@ pub struct Keys {
 
 impl Model for Keys {
     ghost use Rattle.std.specs.Prelude.{List};
-    ghost use Rattle.da_cache.specs.declared.key.Key.{Key};
+    ghost use Rattle.da_keys.specs.declared.key.Key.{Key};
 
     ghost Value = { List Key };
 

@@ -1,4 +1,4 @@
-//! The cache of answers: the keys whose newest answers may be repeated, the most recent first.
+//! The keys under which answers are kept, and the list of those that a cache has, the most recent first.
 #![tactic(auto)]
 
 mod key;

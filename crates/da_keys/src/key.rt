@@ -1,7 +1,7 @@
 // Keys.
 
 ghost use Rattle.std.specs.Prelude.{◌≡◌, IfOk};
-ghost use Rattle.da_cache.specs.Keys as words;
+ghost use Rattle.da_keys.specs.Keys as words;
 
 use da_fields::{QueryKind, Text};
 use std::alloc::{AllocError, Global};

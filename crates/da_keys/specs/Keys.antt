@@ -3,7 +3,7 @@ use Rattle.std.specs.Prelude.{ℕ, Bool, true, false, ◌&&◌, not, List, ◌�
 use Rattle.std.specs.List.{list_any}
 use Rattle.da_fields.specs.declared.answer.QueryKind.{QueryKind}
 use Rattle.da_fields.specs.declared.answer.QueryKind.TheVariants.{Pass, Check, User}
-use Rattle.da_cache.specs.declared.key.Key.{Key}
+use Rattle.da_keys.specs.declared.key.Key.{Key}
 
 abbrev pub same_kind : QueryKind → QueryKind → Bool
 same_kind Pass Pass = true
@@ -24,6 +24,6 @@ without_key k keys = filter (λ x. not (same_key k x)) keys
 abbrev pub key_first : Key → List Key → List Key
 key_first k keys = k ∷ without_key k keys
 
--- an answer puts its key first, and the last key falls off a list that is too long; a life of 0 takes the key out
+-- an answer puts its key first, and the last key falls off a list that is too long; a ttl of 0 takes the key out
 abbrev pub with_key : ℕ → ℕ → Key → List Key → List Key
-with_key size life k keys = if life == 0 then without_key k keys else take size (key_first k keys)
+with_key size ttl k keys = if ttl == 0 then without_key k keys else take size (key_first k keys)

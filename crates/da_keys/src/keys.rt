@@ -1,7 +1,7 @@
 // The keys of the cache, the most recent first.
 
 ghost use Rattle.std.specs.Prelude.{◌≡◌, OnOk};
-ghost use Rattle.da_cache.specs.Keys as words;
+ghost use Rattle.da_keys.specs.Keys as words;
 
 use crate::key::Key;
 use da_fields::QueryKind;
@@ -30,11 +30,11 @@ pub fn key_first(keys: &mut Vec<Key>, key: Key) -> Result<(), AllocError>
     Ok(())
 }
 
-/// Puts the key of a new answer first, of which at most `size` are kept. A key whose answers have a life of 0 is taken out.
-pub fn with_key(keys: &mut Vec<Key>, size: u32, life: u64, key: Key) -> Result<(), AllocError>
-    ensures { OnOk result (keys.new.items ≡ words.with_key size life key keys.old.items) }
+/// Puts the key of a new answer first, of which at most `size` are kept. A key whose answers have a ttl of 0 is taken out.
+pub fn with_key(keys: &mut Vec<Key>, size: u32, ttl: u64, key: Key) -> Result<(), AllocError>
+    ensures { OnOk result (keys.new.items ≡ words.with_key size ttl key keys.old.items) }
 {
-    if life == 0 {
+    if ttl == 0 {
         without_key(keys, &key);
         return Ok(());
     }
