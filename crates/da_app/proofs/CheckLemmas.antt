@@ -76,18 +76,18 @@ checks_unread path before now Full read same = absurd read
 
 -- settings were read, and their counts told
 pub checks_told : (path : Bytes) (before now : CheckOutside) (status : Status) → ChecksWith path before now status → Checks (Some path) before now status
-checks_told path before now Done told = told
-checks_told path before now WriteFault told = told
-checks_told path before now NoMemory told = told.tells
-checks_told path before now NoSettings told = absurd told.tells
-checks_told path before now (BadSettings fault) told = absurd told.tells
-checks_told path before now Usage told = absurd told.tells
-checks_told path before now (BadScript line) told = absurd told.tells
-checks_told path before now LongScript told = absurd told.tells
-checks_told path before now BadInput told = absurd told.tells
-checks_told path before now NoListen told = absurd told.tells
-checks_told path before now ReadFault told = absurd told.tells
-checks_told path before now Full told = absurd told.tells
+checks_told path before now Done reported = reported
+checks_told path before now WriteFault reported = reported
+checks_told path before now NoMemory reported = reported.tells
+checks_told path before now NoSettings reported = absurd reported.tells
+checks_told path before now (BadSettings fault) reported = absurd reported.tells
+checks_told path before now Usage reported = absurd reported.tells
+checks_told path before now (BadScript line) reported = absurd reported.tells
+checks_told path before now LongScript reported = absurd reported.tells
+checks_told path before now BadInput reported = absurd reported.tells
+checks_told path before now NoListen reported = absurd reported.tells
+checks_told path before now ReadFault reported = absurd reported.tells
+checks_told path before now Full reported = absurd reported.tells
 
 pub checks_along : (o words : Option Bytes) (before now : CheckOutside) (status : Status) → o ≡ words → Checks o before now status → Checks words before now status
 checks_along o words before now status same how = subst (λ (w : Option Bytes). Checks w before now status) same how

@@ -130,32 +130,32 @@ entered_plays n line event old new before now f g turn out spelled enters writes
 module _ (n : ℕ) (line : Bytes) (event : Event) (old new : Served) (before now : Option Bytes) (f g : ℕ) (turn : Turn) (spelled : event_of line ≡ Some event) where
   told_plays : (refused : Refused) → is_other (Err refused) → IsRefused old new event.0 event.1 refused → WritesReply (refused_text n refused) before now f g turn
       → Plays n line old new before now f g turn
-  told_plays refused other told writes =
+  told_plays refused other reported writes =
       written_plays n line event old new before now f g turn spelled
-      (other_has_room old.settings old.history event.0 event.1 (Err refused) other told.refuses)
-      (told.stays ∙ ap (λ (h : List Entry). record old { history = h }) (sym (refused_keeps old.settings old.history event.0 event.1 refused told.refuses)))
-      (subst (λ r. WritesReply (reply_text n r) before now f g turn) (sym told.refuses) writes)
+      (other_has_room old.settings old.history event.0 event.1 (Err refused) other reported.refuses)
+      (reported.stays ∙ ap (λ (h : List Entry). record old { history = h }) (sym (refused_keeps old.settings old.history event.0 event.1 refused reported.refuses)))
+      (subst (λ r. WritesReply (reply_text n r) before now f g turn) (sym reported.refuses) writes)
 
   pub refused_plays : (refused : Refused) → ending refused ≡ None → Steps old new event.0 event.1 (Err refused) → WritesReply (refused_text n refused) before now f g turn
       → Plays n line old new before now f g turn
-  refused_plays HistoryFull goes told writes = cc
-  refused_plays (ConnLimit count) goes told writes = told_plays (ConnLimit count) tt told writes
-  refused_plays (NoConn conn) goes told writes = told_plays (NoConn conn) tt told writes
-  refused_plays NothingWaits goes told writes = told_plays NothingWaits tt told writes
-  refused_plays (NotTaken query) goes told writes = told_plays (NotTaken query) tt told writes
-  refused_plays (NotLate query due) goes told writes = told_plays (NotLate query due) tt told writes
-  refused_plays NoMemory goes told writes = cc
+  refused_plays HistoryFull goes reported writes = cc
+  refused_plays (ConnLimit count) goes reported writes = told_plays (ConnLimit count) tt reported writes
+  refused_plays (NoConn conn) goes reported writes = told_plays (NoConn conn) tt reported writes
+  refused_plays NothingWaits goes reported writes = told_plays NothingWaits tt reported writes
+  refused_plays (NotTaken query) goes reported writes = told_plays (NotTaken query) tt reported writes
+  refused_plays (NotLate query due) goes reported writes = told_plays (NotLate query due) tt reported writes
+  refused_plays NoMemory goes reported writes = cc
 
 -- an event that ends the play at once
 pub ended_plays : (n : ℕ) (line : Bytes) (event : Event) (old new : Served) (now : Option Bytes) (f : ℕ) (turn : Turn) (refused : Refused) → event_of line ≡ Some event
     → ending refused ≡ Some turn → Steps old new event.0 event.1 (Err refused) → Plays n line old new now now f f turn
-ended_plays n line event old new now f turn HistoryFull spelled ends told =
+ended_plays n line event old new now f turn HistoryFull spelled ends reported =
     subst (λ (t : Turn). Plays n line old new now now f f t) (same_Some _ _ ends)
-    (record { event = event; spelled = spelled; full = told_full old.settings old.history event.0 event.1 told.refuses; keeps = Keeps-refl now })
-ended_plays n line event old new now f turn (ConnLimit count) spelled ends told = cc
-ended_plays n line event old new now f turn (NoConn conn) spelled ends told = cc
-ended_plays n line event old new now f turn NothingWaits spelled ends told = cc
-ended_plays n line event old new now f turn (NotTaken query) spelled ends told = cc
-ended_plays n line event old new now f turn (NotLate query due) spelled ends told = cc
-ended_plays n line event old new now f turn NoMemory spelled ends told =
+    (record { event = event; spelled = spelled; full = told_full old.settings old.history event.0 event.1 reported.refuses; keeps = Keeps-refl now })
+ended_plays n line event old new now f turn (ConnLimit count) spelled ends reported = cc
+ended_plays n line event old new now f turn (NoConn conn) spelled ends reported = cc
+ended_plays n line event old new now f turn NothingWaits spelled ends reported = cc
+ended_plays n line event old new now f turn (NotTaken query) spelled ends reported = cc
+ended_plays n line event old new now f turn (NotLate query due) spelled ends reported = cc
+ended_plays n line event old new now f turn NoMemory spelled ends reported =
     subst (λ (t : Turn). Plays n line old new now now f f t) (same_Some _ _ ends) (Keeps-refl now)

@@ -33,20 +33,20 @@ works_unread path before now ReadFault read same = absurd read
 works_unread path before now WriteFault read same = absurd read
 works_unread path before now Full read same = absurd read
 
-module _ (path : Bytes) (before now : Outside) (settings : Settings) (told : Told) (holds : HoldsSettings path (files_told before) told settings) where
+module _ (path : Bytes) (before now : Outside) (settings : Settings) (reported : Told) (holds : HoldsSettings path (files_told before) reported settings) where
   -- by the worker's end
-  works_by_end : (end : WorkerStatus) → RanOver settings told before now (status_of_end end) → Works (Some path) before now (status_of_end end)
-  works_by_end WorkDone ran = record { settings = settings; told = told; holds = holds; ran = ran }
-  works_by_end (BadLine line) ran = record { settings = settings; told = told; holds = holds; ran = ran }
-  works_by_end LongInput ran = record { settings = settings; told = told; holds = holds; ran = ran }
-  works_by_end WorkReadFault ran = record { settings = settings; told = told; holds = holds; ran = ran }
-  works_by_end WorkWriteFault ran = record { settings = settings; told = told; holds = holds; ran = ran }
-  works_by_end WorkNoMemory ran = inr (record { settings = settings; told = told; holds = holds; ran = ran })
+  works_by_end : (end : WorkerStatus) → RanOver settings reported before now (status_of_end end) → Works (Some path) before now (status_of_end end)
+  works_by_end WorkDone ran = record { settings = settings; reported = reported; holds = holds; ran = ran }
+  works_by_end (BadLine line) ran = record { settings = settings; reported = reported; holds = holds; ran = ran }
+  works_by_end LongInput ran = record { settings = settings; reported = reported; holds = holds; ran = ran }
+  works_by_end WorkReadFault ran = record { settings = settings; reported = reported; holds = holds; ran = ran }
+  works_by_end WorkWriteFault ran = record { settings = settings; reported = reported; holds = holds; ran = ran }
+  works_by_end WorkNoMemory ran = inr (record { settings = settings; reported = reported; holds = holds; ran = ran })
 
-  works_ran : (status : Status) → RanOver settings told before now status → Works (Some path) before now status
+  works_ran : (status : Status) → RanOver settings reported before now status → Works (Some path) before now status
   works_ran status ran =
       subst (λ s. Works (Some path) before now s) (sym ran.is_status)
-      (works_by_end ran.end (subst (λ s. RanOver settings told before now s) ran.is_status ran))
+      (works_by_end ran.end (subst (λ s. RanOver settings reported before now s) ran.is_status ran))
 
   works_wanting : (status : Status) → (status ≡ NoMemory) × IsUntouched before now → Works (Some path) before now status
   works_wanting status wanted = subst (λ s. Works (Some path) before now s) (sym wanted.0) (inl wanted.1)
@@ -78,8 +78,8 @@ answered_done WorkNoMemory is = tt
 worked_done : (path : Bytes) (before now : Outside) (status : Status) → WorksWith path before now status → IsGoodWork path before now → IsDone status
 worked_done path before now status how good =
     let ran = how.ran in
-    let whole : Ran (pass_paths how.settings) (user_paths how.settings) how.told (files_told now) (Some good.input) now.left before.contents now.contents before.read_faults now.read_faults before.write_faults now.write_faults ran.end =
-    subst (λ l. Ran (pass_paths how.settings) (user_paths how.settings) how.told (files_told now) l now.left before.contents now.contents before.read_faults now.read_faults before.write_faults now.write_faults ran.end) good.left ran.ran in
+    let whole : Ran (pass_paths how.settings) (user_paths how.settings) how.reported (files_told now) (Some good.input) now.left before.contents now.contents before.read_faults now.read_faults before.write_faults now.write_faults ran.end =
+    subst (λ l. Ran (pass_paths how.settings) (user_paths how.settings) how.reported (files_told now) l now.left before.contents now.contents before.read_faults now.read_faults before.write_faults now.write_faults ran.end) good.left ran.ran in
     subst IsDone (sym ran.is_status)
     (answered_done ran.end (completes _ _ _ _ _ _ _ _ _ _ _ _ ran.end whole good.is_good good.source_sound good.sink_sound))
 

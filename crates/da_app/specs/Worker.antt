@@ -64,10 +64,10 @@ abbrev pub files_told : Outside → Told
 files_told outside = record { held = outside.held; past = outside.past; faults = outside.file_faults }
 
 -- a worker ran over the passwd-files of these settings, from when the files told this, and the status tells its end
-pub record RanOver (settings : Settings) (told : Told) (before now : Outside) (status : Status) : Type 0 where
+pub record RanOver (settings : Settings) (reported : Told) (before now : Outside) (status : Status) : Type 0 where
   pub end : WorkerStatus
   pub is_status : status ≡ status_of_end end
-  pub ran : Ran (pass_paths settings) (user_paths settings) told (files_told now) before.left now.left before.contents now.contents before.read_faults now.read_faults before.write_faults now.write_faults end
+  pub ran : Ran (pass_paths settings) (user_paths settings) reported (files_told now) before.left now.left before.contents now.contents before.read_faults now.read_faults before.write_faults now.write_faults end
 
 -- so it was, or memory was wanted before that
 abbrev pub WorksOver : Settings → Outside → Outside → Status → Type 0
@@ -76,9 +76,9 @@ WorksOver settings before now status = RanOver settings (files_told before) befo
 -- the file at PATH was read and its text is settings, and then a worker ran over their passwd-files
 pub record WorksWith (path : Bytes) (before now : Outside) (status : Status) : Type 0 where
   pub settings : Settings
-  pub told : Told
-  pub holds : HoldsSettings path (files_told before) told settings
-  pub ran : RanOver settings told before now status
+  pub reported : Told
+  pub holds : HoldsSettings path (files_told before) reported settings
+  pub ran : RanOver settings reported before now status
 
 -- By the path and the status. Nothing else comes.
 --   Usage: exactly where the words are off their form; nothing is read or written.

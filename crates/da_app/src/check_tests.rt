@@ -14,7 +14,7 @@ struct Case {
     write_fails: u64,
     code: u8,
     written: &'static [u8],
-    told: &'static [u8],
+    reported: &'static [u8],
 }
 
 const WORDS: &[&str] = &["check", "settings"];
@@ -32,7 +32,7 @@ const CASES: [Case; 9] = [
         write_fails: 0,
         code: 0,
         written: b"ok 2 0\n",
-        told: b"",
+        reported: b"",
     },
     Case {
         words: WORDS,
@@ -40,7 +40,7 @@ const CASES: [Case; 9] = [
         write_fails: 0,
         code: 0,
         written: b"ok 1 0\n",
-        told: b"",
+        reported: b"",
     },
     Case {
         words: WORDS,
@@ -48,7 +48,7 @@ const CASES: [Case; 9] = [
         write_fails: 0,
         code: 0,
         written: b"ok 1 2\n",
-        told: b"",
+        reported: b"",
     },
     Case {
         words: WORDS,
@@ -56,7 +56,7 @@ const CASES: [Case; 9] = [
         write_fails: 0,
         code: 78,
         written: b"",
-        told: b"bad settings at colour: unknown",
+        reported: b"bad settings at colour: unknown",
     },
     Case {
         words: WORDS,
@@ -64,7 +64,7 @@ const CASES: [Case; 9] = [
         write_fails: 0,
         code: 78,
         written: b"",
-        told: b"bad settings at failure_delay: range",
+        reported: b"bad settings at failure_delay: range",
     },
     Case {
         words: WORDS,
@@ -72,7 +72,7 @@ const CASES: [Case; 9] = [
         write_fails: 0,
         code: 78,
         written: b"",
-        told: b"bad settings at settings: not toml",
+        reported: b"bad settings at settings: not toml",
     },
     Case {
         words: &["check"],
@@ -80,7 +80,7 @@ const CASES: [Case; 9] = [
         write_fails: 0,
         code: 64,
         written: b"",
-        told: b"usage",
+        reported: b"usage",
     },
     Case {
         words: &["check", "other"],
@@ -88,7 +88,7 @@ const CASES: [Case; 9] = [
         write_fails: 0,
         code: 66,
         written: b"",
-        told: b"no settings",
+        reported: b"no settings",
     },
     Case {
         words: WORDS,
@@ -96,7 +96,7 @@ const CASES: [Case; 9] = [
         write_fails: 1,
         code: 74,
         written: b"",
-        told: b"write fault",
+        reported: b"write fault",
     },
 ];
 
@@ -107,8 +107,8 @@ fn is_as_told(alloc: Global, case: &Case) -> Result<bool, AllocError> {
     let mut files = MemFiles::new(vec![in alloc; (path, text)]?, Vec::new(alloc));
     let mut output = MemSink::new(alloc, vec![in alloc; case.write_fails]?);
     let status = run_check(alloc, &words, &mut files, &mut output);
-    let told = status.words(alloc)?;
-    Ok(status.code() == case.code && output.bytes() == case.written && told.as_slice() == case.told)
+    let reported = status.words(alloc)?;
+    Ok(status.code() == case.code && output.bytes() == case.written && reported.as_slice() == case.reported)
 }
 
 #[test]

@@ -2,22 +2,22 @@
 
 ghost use Rattle.std.specs.Prelude.{◌≡◌, IfOk, IsTrue};
 ghost use Rattle.std.specs.List.{list_all};
-ghost use Rattle.da_fields.specs.FieldList as words;
-ghost use Rattle.da_names.specs.Templates as templates;
+ghost use Rattle.da_fields.specs.FieldList.{merge};
+ghost use Rattle.da_names.specs.Templates.{expand_fields, is_template_field};
 
 use da_fields::{Fields, Text, merge};
 use da_names::{Vars, expand, template_ok};
 use std::alloc::{AllocError, Global};
 
 fn is_template_field(key: &Text, template: &Text) -> bool
-    ensures { result ≡ templates.is_template_field (key.now, template.now) }
+    ensures { result ≡ is_template_field (key.now, template.now) }
 {
     !key.bytes().is_empty() && template_ok(template.bytes())
 }
 
 /// Whether each field has a key that isn't empty, and a template as its value. It takes no memory.
 pub fn are_templates(fields: &Fields) -> bool
-    ensures { result ≡ list_all templates.is_template_field fields.now }
+    ensures { result ≡ list_all is_template_field fields.now }
 {
     for (key, template) in fields.pairs() {
         if !is_template_field(key, template) {
@@ -29,8 +29,8 @@ pub fn are_templates(fields: &Fields) -> bool
 
 /// The fields with each value, a template, replaced by what it stands for.
 pub fn expand_fields(alloc: Global, fields: &Fields, vars: &Vars) -> Result<Fields, AllocError>
-    requires { IsTrue (list_all templates.is_template_field fields.now) }
-    ensures { IfOk result (λ expanded. expanded ≡ templates.expand_fields vars.now fields.now) }
+    requires { IsTrue (list_all is_template_field fields.now) }
+    ensures { IfOk result (λ expanded. expanded ≡ expand_fields vars.now fields.now) }
 {
     let mut expanded = Fields::new(alloc);
     for (key, template) in fields.pairs() {
@@ -50,9 +50,9 @@ pub fn merge_expanded(
     over: &Fields,
     vars: &Vars,
 ) -> Result<Fields, AllocError>
-    requires default { IsTrue (list_all templates.is_template_field default.now) }
-    requires over { IsTrue (list_all templates.is_template_field over.now) }
-    ensures { IfOk result (λ fields. fields ≡ words.merge before.now (templates.expand_fields vars.now default.now) found.now (templates.expand_fields vars.now over.now)) }
+    requires default { IsTrue (list_all is_template_field default.now) }
+    requires over { IsTrue (list_all is_template_field over.now) }
+    ensures { IfOk result (λ fields. fields ≡ merge before.now (expand_fields vars.now default.now) found.now (expand_fields vars.now over.now)) }
 {
     let default = expand_fields(alloc, default, vars)?;
     let over = expand_fields(alloc, over, vars)?;

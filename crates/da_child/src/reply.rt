@@ -3,7 +3,7 @@
 ghost use Rattle.std.specs.Prelude.{◌≡◌, IfOk, MatchOption};
 ghost use Rattle.da_base.specs.Words.{Bytes};
 ghost use Rattle.da_child.specs.Child.{ExitMeans, ReplyMeans, IsLine};
-ghost use Rattle.da_child.specs.Child as words;
+ghost use Rattle.da_child.specs.Child.{lacks};
 
 use da_fields::{Answer, Why};
 use da_query::read_fields;
@@ -39,7 +39,7 @@ fn of_reply(alloc: Global, reply: &[u8]) -> Result<Answer, AllocError>
 
 /// Whether the byte is not in the text.
 pub(crate) fn lacks(text: &[u8], byte: u8) -> bool
-    ensures { result ≡ words.lacks byte text.now }
+    ensures { result ≡ lacks byte text.now }
 {
     text.iter().all(|other| *other != byte)
 }

@@ -57,11 +57,11 @@ fn the_program_is_told_the_name_and_the_password(rt: HostRuntime) -> Result<(), 
     let alloc = rt.alloc();
     let mut runner = runner(alloc, 1, b"")?;
     check(alloc, &mut runner, b"program", b"alice", b"pw")?;
-    let told = runner.past().first().is_some_and(|run| {
+    let reported = runner.past().first().is_some_and(|run| {
         run.program.bytes() == b"program".as_slice()
             && run.input.bytes() == b"alice\0pw\0\0".as_slice()
     });
-    assert!(rt; told);
+    assert!(rt; reported);
     Ok(())
 }
 

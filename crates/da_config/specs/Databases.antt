@@ -4,7 +4,7 @@ use Rattle.da_base.specs.Words.{Bytes, after_byte}
 use Rattle.da_fields.specs.FieldList.{Pairs, field, with_field, text_key, text_value}
 use Rattle.da_fields.specs.declared.outcome.Rule.{Rule}
 use Rattle.da_hist.specs.SettingsRanges.{first_conflict}
-use Rattle.da_hist.specs.UsualSettings.{usual_passdb}
+use Rattle.da_hist.specs.DefaultSettings.{default_passdb}
 use Rattle.da_names.specs.Templates.{is_template_field}
 use Rattle.da_passdb.specs.declared.database.Driver.{Driver}
 use Rattle.da_passdb.specs.declared.database.Passdb.{Passdb}
@@ -18,7 +18,7 @@ use Rattle.toml.specs.Data.{Items, Members}
 use Rattle.da_config.specs.declared.fault.Fault.{Fault}
 use Rattle.da_config.specs.declared.fault.FaultKind.TheVariants.{Conflict}
 use Rattle.da_config.specs.Reading.{◌>>=◌, fault_at, in_range}
-use Rattle.da_config.specs.Parts.{Part, place, known_of, flag_of, text_of, needed_of, texts_of, tables_in}
+use Rattle.da_config.specs.Parts.{TomlTable, place, known_of, flag_of, text_of, needed_of, texts_of, tables_in}
 use Rattle.da_config.specs.Choices.{rule_called, driver_called, skip_called, user_driver_called, user_skip_called}
 
 -- how the places in a database's table begin: the name of the array, and the number of the table, counted from 1
@@ -51,30 +51,30 @@ fields_after fields (text ∷ texts) =
     if is_field_text text && is_none (field (text_key text) fields)
     then fields_after (with_field (text_key text) (text_value text) fields) texts else None
 
-abbrev pub fields_of : Part → Bytes → Result Pairs Fault
+abbrev pub fields_of : TomlTable → Bytes → Result Pairs Fault
 fields_of part key = texts_of part key [] >>= (λ texts. in_range (place part key) (fields_after [] texts))
 
 -- ---- choices
 
-abbrev pub rule_of : Part → Bytes → Bytes → Result Rule Fault
-rule_of part key usual = text_of part key usual >>= (λ text. in_range (place part key) (rule_called text))
+abbrev pub rule_of : TomlTable → Bytes → Bytes → Result Rule Fault
+rule_of part key default = text_of part key default >>= (λ text. in_range (place part key) (rule_called text))
 
-abbrev pub driver_of : Part → Result Driver Fault
+abbrev pub driver_of : TomlTable → Result Driver Fault
 driver_of part = needed_of part (codes "driver") >>= (λ text. in_range (place part (codes "driver")) (driver_called text))
 
-abbrev pub skip_of : Part → Result Skip Fault
+abbrev pub skip_of : TomlTable → Result Skip Fault
 skip_of part = text_of part (codes "skip") (codes "never") >>= (λ text. in_range (place part (codes "skip")) (skip_called text))
 
-abbrev pub scheme_of : Part → Result Scheme Fault
+abbrev pub scheme_of : TomlTable → Result Scheme Fault
 scheme_of part =
     text_of part (codes "default_scheme") (codes "PLAIN")
     >>= (λ text. in_range (place part (codes "default_scheme")) (scheme_named text))
 
-abbrev pub user_driver_of : Part → Result UserDriver Fault
+abbrev pub user_driver_of : TomlTable → Result UserDriver Fault
 user_driver_of part =
     needed_of part (codes "driver") >>= (λ text. in_range (place part (codes "driver")) (user_driver_called text))
 
-abbrev pub user_skip_of : Part → Result UserSkip Fault
+abbrev pub user_skip_of : TomlTable → Result UserSkip Fault
 user_skip_of part =
     text_of part (codes "skip") (codes "never") >>= (λ text. in_range (place part (codes "skip")) (user_skip_called text))
 
@@ -87,7 +87,7 @@ passdb_keys =
     ∷ codes "default_fields" ∷ codes "override_fields" ∷ []
 
 -- the database of this number
-abbrev pub passdb_of : ℕ → Part → Result Passdb Fault
+abbrev pub passdb_of : ℕ → TomlTable → Result Passdb Fault
 passdb_of number part =
     known_of part passdb_keys >>= (λ known.
     driver_of part >>= (λ driver.
@@ -126,7 +126,7 @@ passdbs_from = databases_from passdb_in
 
 -- without a table, workers answer
 abbrev pub passdbs_of : Option Items → Result (List Passdb) Fault
-passdbs_of None = Ok (usual_passdb 1 ∷ [])
+passdbs_of None = Ok (default_passdb 1 ∷ [])
 passdbs_of (Some items) = passdbs_from 1 (tables_in items)
 
 abbrev pub conflict_at : ℕ → Fault
@@ -148,7 +148,7 @@ userdb_keys =
     ∷ codes "result_internalfail" ∷ codes "default_fields" ∷ codes "override_fields" ∷ []
 
 -- the database of this number
-abbrev pub userdb_of : ℕ → Part → Result Userdb Fault
+abbrev pub userdb_of : ℕ → TomlTable → Result Userdb Fault
 userdb_of number part =
     known_of part userdb_keys >>= (λ known.
     user_driver_of part >>= (λ driver.

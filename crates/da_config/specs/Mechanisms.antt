@@ -5,7 +5,7 @@ use Rattle.da_hist.specs.SettingsRanges.{are_distinct}
 use Rattle.da_msgs.specs.declared.kinds.Mech.{Mech}
 use Rattle.da_config.specs.declared.fault.Fault.{Fault}
 use Rattle.da_config.specs.Reading.{◌>>=◌, in_range}
-use Rattle.da_config.specs.Parts.{Part, place, texts_of}
+use Rattle.da_config.specs.Parts.{TomlTable, place, texts_of}
 use Rattle.da_config.specs.Choices.{mechanism_called}
 
 abbrev pub mechanisms_with : Option Mech → Option (List Mech) → Option (List Mech)
@@ -21,7 +21,7 @@ mechanisms_called (name ∷ names) = mechanisms_with (mechanism_called name) (me
 abbrev pub distinct_mechanisms : List Mech → Option (List Mech)
 distinct_mechanisms mechs = if nat_le 1 (length mechs) && are_distinct mechs then Some mechs else None
 
-abbrev pub mechanisms_of : Part → Result (List Mech) Fault
+abbrev pub mechanisms_of : TomlTable → Result (List Mech) Fault
 mechanisms_of part =
     texts_of part (codes "mechanisms") (codes "PLAIN" ∷ [])
     >>= (λ names. in_range (place part (codes "mechanisms")) (option_and_then distinct_mechanisms (mechanisms_called names)))

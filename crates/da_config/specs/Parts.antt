@@ -8,22 +8,22 @@ use Rattle.std.specs.Borrow.{Bor}
 use Rattle.da_base.specs.Words.{Bytes, option_or_else}
 use Rattle.da_config.specs.declared.fault.Fault.{Fault}
 use Rattle.da_config.specs.declared.fault.FaultKind.TheVariants.{Unknown, Kind}
-use Rattle.da_config.specs.declared.part.Part as code
+use Rattle.da_config.specs.declared.part.TomlTable as code
 use Rattle.da_config.specs.Reading.{◌>>=◌, fault_at, in_range, passing}
 
 -- a table, and how the places in it begin
-pub record Part : Type 0 where
+pub record TomlTable : Type 0 where
   pub front : Bytes
   pub members : Members
 
 -- the part that a value of the code stands for
-abbrev pub part_of : code.Part → Part
+abbrev pub part_of : code.TomlTable → TomlTable
 part_of p = record { front = p.front.now; members = table_view p.table.now }
 
-abbrev pub place : Part → Bytes → Bytes
+abbrev pub place : TomlTable → Bytes → Bytes
 place part key = part.front ++ key
 
-abbrev pub value_at : Part → Bytes → Option Data
+abbrev pub value_at : TomlTable → Bytes → Option Data
 value_at part key = get_member key part.members
 
 -- ---- unknown keys
@@ -34,12 +34,12 @@ unknown_key known no_members = None
 unknown_key known (member key d members) =
     if list_any (bytes_eq key) known then unknown_key known members else Some key
 
-abbrev pub known_at : Part → Option Bytes → Result Members Fault
+abbrev pub known_at : TomlTable → Option Bytes → Result Members Fault
 known_at part None = Ok part.members
 known_at part (Some key) = Err (fault_at (place part key) Unknown)
 
 -- the table, where all its keys are known
-abbrev pub known_of : Part → List Bytes → Result Members Fault
+abbrev pub known_of : TomlTable → List Bytes → Result Members Fault
 known_of part known = known_at part (unknown_key known part.members)
 
 -- ---- integers, from low to high
@@ -53,11 +53,11 @@ number_in place low high None = Err (fault_at place Kind)
 number_in place low high (Some z) = in_range place (natural_in low high z)
 
 abbrev pub number_at : Bytes → ℕ → ℕ → ℕ → Option Data → Result ℕ Fault
-number_at place low high usual None = Ok usual
-number_at place low high usual (Some d) = number_in place low high (as_integer d)
+number_at place low high default None = Ok default
+number_at place low high default (Some d) = number_in place low high (as_integer d)
 
-abbrev pub number_of : Part → Bytes → ℕ → ℕ → ℕ → Result ℕ Fault
-number_of part key low high usual = number_at (place part key) low high usual (value_at part key)
+abbrev pub number_of : TomlTable → Bytes → ℕ → ℕ → ℕ → Result ℕ Fault
+number_of part key low high default = number_at (place part key) low high default (value_at part key)
 
 -- ---- values of one other kind
 
@@ -67,25 +67,25 @@ of_kind place (Some x) = Ok x
 of_kind place None = Err (fault_at place Kind)
 
 abbrev pub flag_at : Bytes → Bool → Option Data → Result Bool Fault
-flag_at place usual None = Ok usual
-flag_at place usual (Some d) = of_kind place (as_bool d)
+flag_at place default None = Ok default
+flag_at place default (Some d) = of_kind place (as_bool d)
 
-abbrev pub flag_of : Part → Bytes → Bool → Result Bool Fault
-flag_of part key usual = flag_at (place part key) usual (value_at part key)
+abbrev pub flag_of : TomlTable → Bytes → Bool → Result Bool Fault
+flag_of part key default = flag_at (place part key) default (value_at part key)
 
 abbrev pub text_at : Bytes → Bytes → Option Data → Result Bytes Fault
-text_at place usual None = Ok usual
-text_at place usual (Some d) = of_kind place (as_str d)
+text_at place default None = Ok default
+text_at place default (Some d) = of_kind place (as_str d)
 
-abbrev pub text_of : Part → Bytes → Bytes → Result Bytes Fault
-text_of part key usual = text_at (place part key) usual (value_at part key)
+abbrev pub text_of : TomlTable → Bytes → Bytes → Result Bytes Fault
+text_of part key default = text_at (place part key) default (value_at part key)
 
 -- a text that must be there
 abbrev pub needed_at : Bytes → Option Data → Result Bytes Fault
 needed_at place None = Err (fault_at place Kind)
 needed_at place (Some d) = of_kind place (as_str d)
 
-abbrev pub needed_of : Part → Bytes → Result Bytes Fault
+abbrev pub needed_of : TomlTable → Bytes → Result Bytes Fault
 needed_of part key = needed_at (place part key) (value_at part key)
 
 -- ---- arrays of texts
@@ -103,11 +103,11 @@ abbrev pub texts_in_data : Bytes → Data → Result (List Bytes) Fault
 texts_in_data place d = of_kind place (option_and_then texts_in (as_array d))
 
 abbrev pub texts_at : Bytes → List Bytes → Option Data → Result (List Bytes) Fault
-texts_at place usual None = Ok usual
-texts_at place usual (Some d) = texts_in_data place d
+texts_at place default None = Ok default
+texts_at place default (Some d) = texts_in_data place d
 
-abbrev pub texts_of : Part → Bytes → List Bytes → Result (List Bytes) Fault
-texts_of part key usual = texts_at (place part key) usual (value_at part key)
+abbrev pub texts_of : TomlTable → Bytes → List Bytes → Result (List Bytes) Fault
+texts_of part key default = texts_at (place part key) default (value_at part key)
 
 -- ---- arrays of tables
 
@@ -137,7 +137,7 @@ abbrev pub tables_at : Bytes → ℕ → Option Data → Result (Option Items) F
 tables_at place low None = Ok None
 tables_at place low (Some d) = tables_in_data place low d
 
-abbrev pub tables_of : Part → Bytes → ℕ → Result (Option Items) Fault
+abbrev pub tables_of : TomlTable → Bytes → ℕ → Result (Option Items) Fault
 tables_of part key low = tables_at (place part key) low (value_at part key)
 
 -- the tables among the items

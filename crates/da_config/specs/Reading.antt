@@ -38,5 +38,5 @@ IsRead found (Err NoMemory) = ⊤
 
 -- a fault that is told; want of memory may stand in its place
 abbrev pub IsTold : Fault → ConfigFault → Type 0
-IsTold fault (Bad told) = told ≡ fault
+IsTold fault (Bad reported) = reported ≡ fault
 IsTold fault NoMemory = ⊤

@@ -2,18 +2,18 @@
 use Rattle.std.specs.Prelude.{◌≡◌, ℕ, ◌<◌, ◌≤◌, ◌^◌, true, List, [], ◌∷◌, length, Option, Some, None, Result, Ok, if◌then◌else◌, IfSome, nat_le, codes}
 use Rattle.da_base.specs.Words.{Bytes}
 use Rattle.da_hist.specs.SettingsRanges.{is_host, are_name_characters, is_ascii, are_distinct, first_conflict}
-use Rattle.da_hist.specs.UsualSettings.{usual_username_chars}
+use Rattle.da_hist.specs.DefaultSettings.{default_username_chars}
 use Rattle.da_hist.specs.declared.settings.Settings.{Settings}
 use Rattle.da_passdb.specs.LoginChain.{are_valid_passdbs}
 use Rattle.da_userdb.specs.UserChain.{are_valid_userdbs}
 use Rattle.da_config.specs.declared.fault.Fault.{Fault}
-use Rattle.da_config.specs.declared.groups.Names.{Names}
-use Rattle.da_config.specs.declared.groups.Spans.{Spans}
+use Rattle.da_config.specs.declared.groups.NameSettings.{NameSettings}
+use Rattle.da_config.specs.declared.groups.Durations.{Durations}
 use Rattle.da_config.specs.declared.groups.Workers.{Workers}
 use Rattle.da_config.specs.declared.groups.Limits.{Limits}
 use Rattle.da_config.specs.declared.groups.Databases.{Databases}
 use Rattle.da_config.specs.Reading.{◌>>=◌, in_range, passing}
-use Rattle.da_config.specs.Parts.{Part, place, known_of, number_of, flag_of, text_of, texts_of, tables_of}
+use Rattle.da_config.specs.Parts.{TomlTable, place, known_of, number_of, flag_of, text_of, texts_of, tables_of}
 use Rattle.da_config.specs.Mechanisms.{mechanisms_of}
 use Rattle.da_config.specs.Databases.{passdbs_of, userdbs_of, unconflicted}
 
@@ -27,13 +27,13 @@ server_keys =
 
 -- ---- names
 
-abbrev pub host_of : Part → Result Bytes Fault
+abbrev pub host_of : TomlTable → Result Bytes Fault
 host_of part =
     text_of part (codes "host") (codes "localhost") >>= (λ text. passing (place part (codes "host")) (is_host text) text)
 
-abbrev pub username_chars_of : Part → Result Bytes Fault
+abbrev pub username_chars_of : TomlTable → Result Bytes Fault
 username_chars_of part =
-    text_of part (codes "username_chars") usual_username_chars
+    text_of part (codes "username_chars") default_username_chars
     >>= (λ text. passing (place part (codes "username_chars")) (are_name_characters text) text)
 
 -- no separator for an empty text, and else its one ASCII character
@@ -42,11 +42,11 @@ separator_in [] = Some None
 separator_in (c ∷ []) = if is_ascii c then Some (Some c) else None
 separator_in (c ∷ d ∷ cs) = None
 
-abbrev pub separator_of : Part → Result (Option ℕ) Fault
+abbrev pub separator_of : TomlTable → Result (Option ℕ) Fault
 separator_of part =
     text_of part (codes "master_separator") [] >>= (λ text. in_range (place part (codes "master_separator")) (separator_in text))
 
-abbrev pub names_of : Part → Result Names Fault
+abbrev pub names_of : TomlTable → Result NameSettings Fault
 names_of part =
     number_of part (codes "server_pid") 0 4294967295 1 >>= (λ server_pid.
     host_of part >>= (λ host.
@@ -63,7 +63,7 @@ names_of part =
       master_separator = master_separator;
     })))))))
 
-pub record NamesFit (n : Names) : Type 0 where
+pub record NamesFit (n : NameSettings) : Type 0 where
   pub server_pid : n.server_pid < 2 ^ 32
   pub host : is_host n.host ≡ true
   pub mechanisms : (1 ≤ length n.mechanisms) × (are_distinct n.mechanisms ≡ true)
@@ -72,7 +72,7 @@ pub record NamesFit (n : Names) : Type 0 where
 
 -- ---- spans of time, and the cache
 
-abbrev pub spans_of : Part → Result Spans Fault
+abbrev pub spans_of : TomlTable → Result Durations Fault
 spans_of part =
     number_of part (codes "failure_delay") 0 60000 2000 >>= (λ failure_delay.
     number_of part (codes "cache_size") 0 100000 0 >>= (λ cache_size.
@@ -87,7 +87,7 @@ spans_of part =
       query_limit = query_limit;
     }))))))
 
-pub record SpansFit (s : Spans) : Type 0 where
+pub record SpansFit (s : Durations) : Type 0 where
   pub failure_delay : s.failure_delay ≤ 60000
   pub cache_size : s.cache_size ≤ 100000
   pub cache_ttl : s.cache_ttl ≤ 86400000
@@ -96,12 +96,12 @@ pub record SpansFit (s : Spans) : Type 0 where
 
 -- ---- workers and sockets
 
-abbrev pub command_of : Part → Result (List Bytes) Fault
+abbrev pub command_of : TomlTable → Result (List Bytes) Fault
 command_of part =
     texts_of part (codes "worker_command") []
     >>= (λ texts. passing (place part (codes "worker_command")) (nat_le (length texts) 16) texts)
 
-abbrev pub workers_of : Part → Result Workers Fault
+abbrev pub workers_of : TomlTable → Result Workers Fault
 workers_of part =
     number_of part (codes "workers") 1 64 2 >>= (λ workers.
     command_of part >>= (λ worker_command.
@@ -120,7 +120,7 @@ pub record WorkersFit (w : Workers) : Type 0 where
 
 -- ---- limits
 
-abbrev pub limits_of : Part → Result Limits Fault
+abbrev pub limits_of : TomlTable → Result Limits Fault
 limits_of part =
     number_of part (codes "history_entries") 1 500000 500000 >>= (λ history_entries.
     number_of part (codes "history_bytes") 1 268435456 268435456 >>= (λ history_bytes.
@@ -135,7 +135,7 @@ pub record LimitsFit (l : Limits) : Type 0 where
 -- ---- databases
 
 -- the tables are looked at only once both keys have the right kind and number of them, and conflicts come last
-abbrev pub databases_of : Part → Result Databases Fault
+abbrev pub databases_of : TomlTable → Result Databases Fault
 databases_of part =
     tables_of part (codes "passdb") 1 >>= (λ password_tables.
     tables_of part (codes "userdb") 0 >>= (λ user_tables.
@@ -153,7 +153,7 @@ pub record DatabasesFit (d : Databases) : Type 0 where
 
 -- ---- the whole table
 
-abbrev pub settings_in : Part → Result Settings Fault
+abbrev pub settings_in : TomlTable → Result Settings Fault
 settings_in part =
     known_of part server_keys >>= (λ known.
     names_of part >>= (λ names.

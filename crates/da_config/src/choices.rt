@@ -1,6 +1,6 @@
 // The words that name a choice.
 ghost use Rattle.std.specs.Prelude.{◌≡◌};
-ghost use Rattle.da_config.specs.Choices as words;
+ghost use Rattle.da_config.specs.Choices.{driver_called, mechanism_called, rule_called, skip_called, user_driver_called, user_skip_called};
 
 use da_fields::Rule;
 use da_msgs::Mech;
@@ -9,7 +9,7 @@ use da_userdb::{UserDriver, UserSkip};
 
 /// The mechanism of this name.
 pub fn mechanism_called(text: &[u8]) -> Option<Mech>
-    ensures { result ≡ words.mechanism_called text.now }
+    ensures { result ≡ mechanism_called text.now }
 {
     if text == b"PLAIN".as_slice() {
         Some(Mech::Plain)
@@ -26,7 +26,7 @@ pub fn mechanism_called(text: &[u8]) -> Option<Mech>
 
 /// The rule of this name.
 pub fn rule_called(text: &[u8]) -> Option<Rule>
-    ensures { result ≡ words.rule_called text.now }
+    ensures { result ≡ rule_called text.now }
 {
     if text == b"return-ok".as_slice() {
         Some(Rule::ReturnOk)
@@ -47,7 +47,7 @@ pub fn rule_called(text: &[u8]) -> Option<Rule>
 
 /// The driver of a password database of this name.
 pub fn driver_called(text: &[u8]) -> Option<Driver>
-    ensures { result ≡ words.driver_called text.now }
+    ensures { result ≡ driver_called text.now }
 {
     if text == b"passwd-file".as_slice() {
         Some(Driver::PasswdFile)
@@ -62,7 +62,7 @@ pub fn driver_called(text: &[u8]) -> Option<Driver>
 
 /// When a password database is passed over.
 pub fn skip_called(text: &[u8]) -> Option<Skip>
-    ensures { result ≡ words.skip_called text.now }
+    ensures { result ≡ skip_called text.now }
 {
     if text == b"never".as_slice() {
         Some(Skip::Never)
@@ -77,7 +77,7 @@ pub fn skip_called(text: &[u8]) -> Option<Skip>
 
 /// The driver of a user database of this name.
 pub fn user_driver_called(text: &[u8]) -> Option<UserDriver>
-    ensures { result ≡ words.user_driver_called text.now }
+    ensures { result ≡ user_driver_called text.now }
 {
     if text == b"passwd-file".as_slice() {
         Some(UserDriver::PasswdFile)
@@ -92,7 +92,7 @@ pub fn user_driver_called(text: &[u8]) -> Option<UserDriver>
 
 /// When a user database is passed over.
 pub fn user_skip_called(text: &[u8]) -> Option<UserSkip>
-    ensures { result ≡ words.user_skip_called text.now }
+    ensures { result ≡ user_skip_called text.now }
 {
     if text == b"never".as_slice() {
         Some(UserSkip::Never)

@@ -1,27 +1,27 @@
 // The databases of a server.
 ghost use Rattle.std.specs.Prelude.{◌≡◌, ◌≤◌, ◌∷◌, ◌++◌, [], true, length, option_map, Some, None, IfOk, IfSome, OnOk};
 ghost use Rattle.da_hist.specs.SettingsRanges.{has_conflict, first_conflict};
-ghost use Rattle.da_hist.specs.UsualSettings.{usual_passdb};
+ghost use Rattle.da_hist.specs.DefaultSettings.{default_passdb};
 ghost use Rattle.da_passdb.specs.LoginChain.{are_valid_passdbs};
 ghost use Rattle.da_userdb.specs.UserChain.{are_valid_userdbs};
 ghost use Rattle.toml.specs.View.{items_view};
 ghost use Rattle.da_config.specs.Reading.{IsRead, IsReadBy};
 ghost use Rattle.da_config.specs.Parts.{AreTables, are_tables, tables_in};
-ghost use Rattle.da_config.specs.Databases as words;
+ghost use Rattle.da_config.specs.Databases.{conflict_at, front as spec_front, passdbs_from, passdbs_of, unconflicted, userdbs_from, userdbs_of};
 
 use crate::fault::{ConfigFault, Fault, FaultKind};
-use crate::part::Part;
+use crate::part::TomlTable;
 use crate::passdb::passdb;
 use crate::userdb::userdb;
 use da_fields::Text;
-use da_hist::{Passdbs, Userdbs, usual_passdb};
+use da_hist::{Passdbs, Userdbs, default_passdb};
 use da_passdb::{Driver, Passdb};
 use std::alloc::{AllocError, Global};
 use toml::Value;
 
 // How the places in the table of this number begin.
 fn front(alloc: Global, array: &[u8], number: u32) -> Result<Vec<u8>, AllocError>
-    ensures { IfOk result (λ front. front.items ≡ words.front array.now number) }
+    ensures { IfOk result (λ front. front.items ≡ spec_front array.now number) }
 {
     let mut front = Vec::from_slice(alloc, array)?;
     front.extend_from_slice(b"[")?;
@@ -40,7 +40,7 @@ fn push<D: Drop>(dbs: &mut Vec<D>, db: D) -> Result<(), AllocError>
 fn read_passdbs(alloc: Global, array: &[Value]) -> Result<Passdbs, ConfigFault>
     requires few { length array.now ≤ 16 }
     requires tables { are_tables (items_view array.now) ≡ true }
-    ensures read { IsRead (words.passdbs_from 1 (tables_in (items_view array.now))) result }
+    ensures read { IsRead (passdbs_from 1 (tables_in (items_view array.now))) result }
     ensures all { IfOk result (λ dbs. length dbs ≡ length array.now) }
     ensures fit { IfOk result (λ dbs. are_valid_passdbs dbs ≡ true) }
 {
@@ -51,7 +51,7 @@ fn read_passdbs(alloc: Global, array: &[Value]) -> Result<Passdbs, ConfigFault>
         };
         let number = dbs.len() as u32 + 1;
         let front = front(alloc, b"passdb", number)?;
-        let part = Part {
+        let part = TomlTable {
             table,
             front: &front,
         };
@@ -64,7 +64,7 @@ fn read_passdbs(alloc: Global, array: &[Value]) -> Result<Passdbs, ConfigFault>
 fn read_userdbs(alloc: Global, array: &[Value]) -> Result<Userdbs, ConfigFault>
     requires few { length array.now ≤ 16 }
     requires tables { are_tables (items_view array.now) ≡ true }
-    ensures read { IsRead (words.userdbs_from 1 (tables_in (items_view array.now))) result }
+    ensures read { IsRead (userdbs_from 1 (tables_in (items_view array.now))) result }
     ensures all { IfOk result (λ dbs. length dbs ≡ length array.now) }
     ensures fit { IfOk result (λ dbs. are_valid_userdbs dbs ≡ true) }
 {
@@ -75,7 +75,7 @@ fn read_userdbs(alloc: Global, array: &[Value]) -> Result<Userdbs, ConfigFault>
         };
         let number = dbs.len() as u32 + 1;
         let front = front(alloc, b"userdb", number)?;
-        let part = Part {
+        let part = TomlTable {
             table,
             front: &front,
         };
@@ -104,7 +104,7 @@ fn conflict(dbs: &[Passdb]) -> Option<u32>
 }
 
 fn told_conflict(alloc: Global, number: u32) -> Result<Fault, AllocError>
-    ensures { IfOk result (λ fault. fault ≡ words.conflict_at number) }
+    ensures { IfOk result (λ fault. fault ≡ conflict_at number) }
 {
     let mut place = front(alloc, b"passdb", number)?;
     place.extend_from_slice(b"deny")?;
@@ -116,7 +116,7 @@ fn told_conflict(alloc: Global, number: u32) -> Result<Fault, AllocError>
 
 /// The databases, where no two values of one conflict.
 pub fn unconflicted(alloc: Global, dbs: Passdbs) -> Result<Passdbs, ConfigFault>
-    ensures read { IsRead (words.unconflicted dbs) result }
+    ensures read { IsRead (unconflicted dbs) result }
     ensures same { IfOk result (λ same. same ≡ dbs) }
     ensures free { IfOk result (λ same. first_conflict same ≡ None) }
 {
@@ -126,29 +126,29 @@ pub fn unconflicted(alloc: Global, dbs: Passdbs) -> Result<Passdbs, ConfigFault>
     }
 }
 
-fn usual_passdbs(alloc: Global) -> Result<Passdbs, AllocError>
-    ensures { IfOk result (λ dbs. dbs ≡ usual_passdb 1 ∷ []) }
+fn default_passdbs(alloc: Global) -> Result<Passdbs, AllocError>
+    ensures { IfOk result (λ dbs. dbs ≡ default_passdb 1 ∷ []) }
 {
-    Ok(Passdbs::new(vec![in alloc; usual_passdb(alloc, 1)]?))
+    Ok(Passdbs::new(vec![in alloc; default_passdb(alloc, 1)]?))
 }
 
 /// The password databases of these tables; without any, workers answer.
 pub fn passdbs(alloc: Global, array: Option<&[Value]>) -> Result<Passdbs, ConfigFault>
     requires { IfSome array (AreTables 1) }
-    ensures read { IsRead (words.passdbs_of (option_map (λ values. items_view values.now) array.entry)) result }
+    ensures read { IsRead (passdbs_of (option_map (λ values. items_view values.now) array.entry)) result }
     ensures few { IfOk result (λ dbs. (1 ≤ length dbs) × (length dbs ≤ 16)) }
     ensures fit { IfOk result (λ dbs. are_valid_passdbs dbs ≡ true) }
 {
     match array {
         Some(array) => read_passdbs(alloc, array),
-        None => Ok(usual_passdbs(alloc)?),
+        None => Ok(default_passdbs(alloc)?),
     }
 }
 
 /// The user databases of these tables.
 pub fn userdbs(alloc: Global, array: Option<&[Value]>) -> Result<Userdbs, ConfigFault>
     requires { IfSome array (AreTables 0) }
-    ensures read { IsRead (words.userdbs_of (option_map (λ values. items_view values.now) array.entry)) result }
+    ensures read { IsRead (userdbs_of (option_map (λ values. items_view values.now) array.entry)) result }
     ensures few { IfOk result (λ dbs. length dbs ≤ 16) }
     ensures fit { IfOk result (λ dbs. are_valid_userdbs dbs ≡ true) }
 {

@@ -2,10 +2,10 @@
 ghost use Rattle.std.specs.Prelude.{◌≡◌, option_map, IfOk};
 ghost use Rattle.toml.specs.View.{table_view};
 ghost use Rattle.da_config.specs.Reading.{IsRead, IsTold};
-ghost use Rattle.da_config.specs.SettingsText as words;
+ghost use Rattle.da_config.specs.SettingsText.{document_of, fault_at_all, settings_of};
 
 use crate::fault::{ConfigFault, Fault, FaultKind};
-use crate::part::Part;
+use crate::part::TomlTable;
 use crate::server::settings;
 use da_fields::Text;
 use da_hist::Settings;
@@ -17,7 +17,7 @@ const TEXT_MAX: usize = 1_048_576;
 
 // A fault of the text as a whole, or want of memory.
 fn fault(alloc: Global, kind: FaultKind) -> ConfigFault
-    ensures { IsTold (words.fault_at_all kind) result }
+    ensures { IsTold (fault_at_all kind) result }
 {
     match Vec::from_slice(alloc, b"settings") {
         Ok(place) => ConfigFault::Bad(Fault {
@@ -30,7 +30,7 @@ fn fault(alloc: Global, kind: FaultKind) -> ConfigFault
 
 // The table that a text stands for, if it stands for one.
 fn document(alloc: Global, text: &[u8]) -> Result<Option<Table>, AllocError>
-    ensures { IfOk result (λ found. option_map table_view found ≡ words.document_of text.now) }
+    ensures { IfOk result (λ found. option_map table_view found ≡ document_of text.now) }
 {
     let Ok(text) = std::str::from_utf8(text) else {
         return Ok(None);
@@ -49,7 +49,7 @@ fn document(alloc: Global, text: &[u8]) -> Result<Option<Table>, AllocError>
 /// missing. A text of more than 1,048,576 bytes is out of range.
 #[tactic(auto, unfolding(crate::specs::SettingsText::settings_of))]
 pub fn read(alloc: Global, text: &[u8]) -> Result<Settings, ConfigFault>
-    ensures { IsRead (words.settings_of text.now) result }
+    ensures { IsRead (settings_of text.now) result }
 {
     if text.len() > TEXT_MAX {
         return Err(fault(alloc, FaultKind::Range));
@@ -57,7 +57,7 @@ pub fn read(alloc: Global, text: &[u8]) -> Result<Settings, ConfigFault>
     let Some(table) = document(alloc, text)? else {
         return Err(fault(alloc, FaultKind::NotToml));
     };
-    let part = Part {
+    let part = TomlTable {
         table: &table,
         front: b"",
     };

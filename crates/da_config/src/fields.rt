@@ -5,10 +5,10 @@ ghost use Rattle.da_fields.specs.FieldList.{field, with_field};
 ghost use Rattle.da_names.specs.Templates.{is_template_field};
 ghost use Rattle.da_config.specs.Reading.{IsRead};
 ghost use Rattle.da_config.specs.Parts.{part_of};
-ghost use Rattle.da_config.specs.Databases as words;
+ghost use Rattle.da_config.specs.Databases.{IsFieldOf, fields_after, fields_of, is_field_text};
 
 use crate::fault::{ConfigFault, FaultKind};
-use crate::part::Part;
+use crate::part::TomlTable;
 use da_fields::{Fields, Text};
 use da_hist::Texts;
 use da_names::template_ok;
@@ -17,7 +17,7 @@ use std::alloc::{AllocError, Global};
 
 // The key and the template of a text.
 fn field_in(text: &[u8]) -> Option<(&[u8], &[u8])>
-    ensures { MatchOption result (words.is_field_text text.now ≡ false) (λ p. words.IsFieldOf text.now p.0.now p.1.now) }
+    ensures { MatchOption result (is_field_text text.now ≡ false) (λ p. IsFieldOf text.now p.0.now p.1.now) }
 {
     let (key, value) = split_at_byte(text, b'=')?;
     if key.is_empty() || !template_ok(value) {
@@ -42,7 +42,7 @@ fn put(alloc: Global, fields: &mut Fields, key: &[u8], value: &[u8]) -> Result<(
 
 // The fields that the texts write, each under a key of its own.
 fn fields_in(alloc: Global, texts: &[Text]) -> Result<Option<Fields>, AllocError>
-    ensures fields { IfOk result (λ fields. fields ≡ words.fields_after [] texts.now) }
+    ensures fields { IfOk result (λ fields. fields ≡ fields_after [] texts.now) }
     ensures fit { IfOk result (λ fields. IfSome fields (λ pairs. list_all is_template_field pairs ≡ true)) }
 {
     let mut fields = Fields::new(alloc);
@@ -59,8 +59,8 @@ fn fields_in(alloc: Global, texts: &[Text]) -> Result<Option<Fields>, AllocError
 }
 
 /// The fields at a key, none where it is missing.
-pub fn fields(alloc: Global, part: &Part<'_>, key: &str) -> Result<Fields, ConfigFault>
-    ensures read { IsRead (words.fields_of (part_of part.now) key.now) result }
+pub fn fields(alloc: Global, part: &TomlTable<'_>, key: &str) -> Result<Fields, ConfigFault>
+    ensures read { IsRead (fields_of (part_of part.now) key.now) result }
     ensures fit { IfOk result (λ fields. list_all is_template_field fields ≡ true) }
 {
     let texts = part.texts(alloc, key, Texts::new(Vec::new(alloc)))?;

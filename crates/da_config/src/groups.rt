@@ -4,7 +4,7 @@ use da_hist::{Mechs, Passdbs, Texts, Userdbs};
 
 /// Who the server is, and which names it takes.
 #[derive(Drop)]
-pub struct Names {
+pub struct NameSettings {
     pub server_pid: u32,
     pub host: Text,
     pub mechanisms: Mechs,
@@ -13,9 +13,9 @@ pub struct Names {
     pub master_separator: Option<u8>,
 }
 
-/// Spans of time in milliseconds, and the size of the cache.
+/// Durations of time in milliseconds, and the size of the cache.
 #[derive(Drop)]
-pub struct Spans {
+pub struct Durations {
     pub failure_delay: u64,
     pub cache_size: u32,
     pub cache_ttl: u64,

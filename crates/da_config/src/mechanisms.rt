@@ -3,11 +3,11 @@ ghost use Rattle.std.specs.Prelude.{◌≡◌, ◌≤◌, ◌∷◌, [], codes, 
 ghost use Rattle.da_hist.specs.SettingsRanges.{has_mechanism, are_distinct};
 ghost use Rattle.da_config.specs.Reading.{IsRead};
 ghost use Rattle.da_config.specs.Parts.{part_of};
-ghost use Rattle.da_config.specs.Mechanisms as words;
+ghost use Rattle.da_config.specs.Mechanisms.{mechanisms_called, mechanisms_of};
 
 use crate::choices::mechanism_called;
 use crate::fault::{ConfigFault, FaultKind};
-use crate::part::Part;
+use crate::part::TomlTable;
 use da_fields::Text;
 use da_hist::{Mechs, Texts};
 use da_msgs::Mech;
@@ -15,7 +15,7 @@ use std::alloc::{AllocError, Global};
 
 const KEY: &str = "mechanisms";
 
-fn usual(alloc: Global) -> Result<Texts, AllocError>
+fn default(alloc: Global) -> Result<Texts, AllocError>
     ensures { IfOk result (λ names. names ≡ codes "PLAIN" ∷ []) }
 {
     let name = Text::new(Vec::from_slice(alloc, b"PLAIN")?);
@@ -24,7 +24,7 @@ fn usual(alloc: Global) -> Result<Texts, AllocError>
 
 // The mechanisms of these names, where each is the name of one.
 fn called(alloc: Global, names: &[Text]) -> Result<Option<Mechs>, AllocError>
-    ensures { IfOk result (λ mechs. mechs ≡ words.mechanisms_called names.now) }
+    ensures { IfOk result (λ mechs. mechs ≡ mechanisms_called names.now) }
 {
     let mut mechs = Vec::new(alloc);
     for name in names {
@@ -61,11 +61,11 @@ fn distinct(mechs: &[Mech]) -> bool
 }
 
 /// The mechanisms, in the order in which they are told.
-pub fn mechanisms(alloc: Global, part: &Part<'_>) -> Result<Mechs, ConfigFault>
-    ensures read { IsRead (words.mechanisms_of (part_of part.now)) result }
+pub fn mechanisms(alloc: Global, part: &TomlTable<'_>) -> Result<Mechs, ConfigFault>
+    ensures read { IsRead (mechanisms_of (part_of part.now)) result }
     ensures fit { IfOk result (λ mechs. (1 ≤ length mechs) × (are_distinct mechs ≡ true)) }
 {
-    let names = part.texts(alloc, KEY, usual(alloc)?)?;
+    let names = part.texts(alloc, KEY, default(alloc)?)?;
     let Some(mechs) = called(alloc, names.all())? else {
         return Err(part.fault(alloc, KEY, FaultKind::Range));
     };

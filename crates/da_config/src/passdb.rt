@@ -3,12 +3,12 @@ ghost use Rattle.std.specs.Prelude.{◌≡◌, true, IfOk};
 ghost use Rattle.da_passdb.specs.LoginChain.{is_valid_passdb};
 ghost use Rattle.da_config.specs.Reading.{IsRead};
 ghost use Rattle.da_config.specs.Parts.{part_of};
-ghost use Rattle.da_config.specs.Databases as words;
+ghost use Rattle.da_config.specs.Databases.{driver_of, passdb_of, rule_of, scheme_of, skip_of};
 
 use crate::choices::{driver_called, rule_called, skip_called};
 use crate::fault::{ConfigFault, FaultKind};
 use crate::fields::fields;
-use crate::part::Part;
+use crate::part::TomlTable;
 use da_fields::Rule;
 use da_passdb::{Driver, Passdb, Skip};
 use da_schemes::Scheme;
@@ -30,18 +30,18 @@ const KEYS: [&str; 12] = [
 ];
 
 /// The rule at a key, and the one of this name where it is missing.
-pub fn rule(alloc: Global, part: &Part<'_>, key: &str, usual: &[u8]) -> Result<Rule, ConfigFault>
-    ensures { IsRead (words.rule_of (part_of part.now) key.now usual.now) result }
+pub fn rule(alloc: Global, part: &TomlTable<'_>, key: &str, default: &[u8]) -> Result<Rule, ConfigFault>
+    ensures { IsRead (rule_of (part_of part.now) key.now default.now) result }
 {
-    let text = part.text(alloc, key, usual)?;
+    let text = part.text(alloc, key, default)?;
     match rule_called(text.bytes()) {
         Some(rule) => Ok(rule),
         None => Err(part.fault(alloc, key, FaultKind::Range)),
     }
 }
 
-fn driver(alloc: Global, part: &Part<'_>) -> Result<Driver, ConfigFault>
-    ensures { IsRead (words.driver_of (part_of part.now)) result }
+fn driver(alloc: Global, part: &TomlTable<'_>) -> Result<Driver, ConfigFault>
+    ensures { IsRead (driver_of (part_of part.now)) result }
 {
     let text = part.needed(alloc, "driver")?;
     match driver_called(text.bytes()) {
@@ -50,8 +50,8 @@ fn driver(alloc: Global, part: &Part<'_>) -> Result<Driver, ConfigFault>
     }
 }
 
-fn skip(alloc: Global, part: &Part<'_>) -> Result<Skip, ConfigFault>
-    ensures { IsRead (words.skip_of (part_of part.now)) result }
+fn skip(alloc: Global, part: &TomlTable<'_>) -> Result<Skip, ConfigFault>
+    ensures { IsRead (skip_of (part_of part.now)) result }
 {
     let text = part.text(alloc, "skip", b"never")?;
     match skip_called(text.bytes()) {
@@ -60,8 +60,8 @@ fn skip(alloc: Global, part: &Part<'_>) -> Result<Skip, ConfigFault>
     }
 }
 
-fn scheme(alloc: Global, part: &Part<'_>) -> Result<Scheme, ConfigFault>
-    ensures { IsRead (words.scheme_of (part_of part.now)) result }
+fn scheme(alloc: Global, part: &TomlTable<'_>) -> Result<Scheme, ConfigFault>
+    ensures { IsRead (scheme_of (part_of part.now)) result }
 {
     let text = part.text(alloc, "default_scheme", b"PLAIN")?;
     match Scheme::read(text.bytes()) {
@@ -71,8 +71,8 @@ fn scheme(alloc: Global, part: &Part<'_>) -> Result<Scheme, ConfigFault>
 }
 
 /// The password database of this number, from its table.
-pub fn passdb(alloc: Global, part: &Part<'_>, number: u32) -> Result<Passdb, ConfigFault>
-    ensures read { IsRead (words.passdb_of number (part_of part.now)) result }
+pub fn passdb(alloc: Global, part: &TomlTable<'_>, number: u32) -> Result<Passdb, ConfigFault>
+    ensures read { IsRead (passdb_of number (part_of part.now)) result }
     ensures fit { IfOk result (λ db. (db.number ≡ number) × (is_valid_passdb db ≡ true)) }
 {
     part.check_keys(alloc, &KEYS)?;

@@ -2,16 +2,16 @@
 // missing.
 ghost use Rattle.std.specs.Prelude.{◌≡◌, ◌≤◌, true, length, IfOk, IfSome};
 ghost use Rattle.std.specs.List.{list_all};
-ghost use Rattle.da_hist.specs.SettingsRanges as ranges;
+ghost use Rattle.da_hist.specs.SettingsRanges.{are_name_characters, is_ascii, is_host, is_host_character};
 ghost use Rattle.da_config.specs.Reading.{IsRead};
 ghost use Rattle.da_config.specs.Parts.{part_of};
-ghost use Rattle.da_config.specs.Servers as words;
+ghost use Rattle.da_config.specs.Servers.{DatabasesFit, LimitsFit, NamesFit, SpansFit, WorkersFit, command_of, databases_of, host_of, limits_of, names_of, separator_in, separator_of, settings_in, spans_of, username_chars_of, workers_of};
 
 use crate::databases::{passdbs, unconflicted, userdbs};
 use crate::fault::{ConfigFault, FaultKind};
-use crate::groups::{Databases, Limits, Names, Spans, Workers};
+use crate::groups::{Databases, Limits, NameSettings, Durations, Workers};
 use crate::mechanisms::mechanisms;
-use crate::part::Part;
+use crate::part::TomlTable;
 use da_fields::Text;
 use da_hist::{Settings, Texts};
 use std::alloc::Global;
@@ -44,38 +44,38 @@ const USERNAME_CHARS: &[u8] = b"abcdefghijklmnopqrstuvwxyzABCDEFGHIJKLMNOPQRSTUV
 // ---- names
 
 fn is_host_character(byte: u8) -> bool
-    ensures { result ≡ ranges.is_host_character byte }
+    ensures { result ≡ is_host_character byte }
 {
     33 <= byte && byte <= 126 && byte != b'<' && byte != b'>' && byte != b'@'
 }
 
 fn are_host_characters(text: &[u8]) -> bool
-    ensures { result ≡ list_all ranges.is_host_character text.now }
+    ensures { result ≡ list_all is_host_character text.now }
 {
     text.iter().all(|byte| is_host_character(*byte))
 }
 
 fn is_host(text: &[u8]) -> bool
-    ensures { result ≡ ranges.is_host text.now }
+    ensures { result ≡ is_host text.now }
 {
     1 <= text.len() && text.len() <= 255 && are_host_characters(text)
 }
 
 fn are_ascii(text: &[u8]) -> bool
-    ensures { result ≡ list_all ranges.is_ascii text.now }
+    ensures { result ≡ list_all is_ascii text.now }
 {
     text.iter().all(|byte| *byte < 128)
 }
 
 fn are_name_characters(text: &[u8]) -> bool
-    ensures { result ≡ ranges.are_name_characters text.now }
+    ensures { result ≡ are_name_characters text.now }
 {
     1 <= text.len() && text.len() <= 255 && are_ascii(text)
 }
 
-fn host(alloc: Global, part: &Part<'_>) -> Result<Text, ConfigFault>
-    ensures read { IsRead (words.host_of (part_of part.now)) result }
-    ensures fit { IfOk result (λ text. ranges.is_host text ≡ true) }
+fn host(alloc: Global, part: &TomlTable<'_>) -> Result<Text, ConfigFault>
+    ensures read { IsRead (host_of (part_of part.now)) result }
+    ensures fit { IfOk result (λ text. is_host text ≡ true) }
 {
     let text = part.text(alloc, "host", b"localhost")?;
     if !is_host(text.bytes()) {
@@ -84,9 +84,9 @@ fn host(alloc: Global, part: &Part<'_>) -> Result<Text, ConfigFault>
     Ok(text)
 }
 
-fn username_chars(alloc: Global, part: &Part<'_>) -> Result<Text, ConfigFault>
-    ensures read { IsRead (words.username_chars_of (part_of part.now)) result }
-    ensures fit { IfOk result (λ text. ranges.are_name_characters text ≡ true) }
+fn username_chars(alloc: Global, part: &TomlTable<'_>) -> Result<Text, ConfigFault>
+    ensures read { IsRead (username_chars_of (part_of part.now)) result }
+    ensures fit { IfOk result (λ text. are_name_characters text ≡ true) }
 {
     let text = part.text(alloc, "username_chars", USERNAME_CHARS)?;
     if !are_name_characters(text.bytes()) {
@@ -97,7 +97,7 @@ fn username_chars(alloc: Global, part: &Part<'_>) -> Result<Text, ConfigFault>
 
 // The separator that a text is; none where it is empty.
 fn separator_in(text: &[u8]) -> Option<Option<u8>>
-    ensures { result ≡ words.separator_in text.now }
+    ensures { result ≡ separator_in text.now }
 {
     match text {
         [] => Some(None),
@@ -106,9 +106,9 @@ fn separator_in(text: &[u8]) -> Option<Option<u8>>
     }
 }
 
-fn separator(alloc: Global, part: &Part<'_>) -> Result<Option<u8>, ConfigFault>
-    ensures read { IsRead (words.separator_of (part_of part.now)) result }
-    ensures fit { IfOk result (λ found. IfSome found (λ c. ranges.is_ascii c ≡ true)) }
+fn separator(alloc: Global, part: &TomlTable<'_>) -> Result<Option<u8>, ConfigFault>
+    ensures read { IsRead (separator_of (part_of part.now)) result }
+    ensures fit { IfOk result (λ found. IfSome found (λ c. is_ascii c ≡ true)) }
 {
     let text = part.text(alloc, "master_separator", b"")?;
     match separator_in(text.bytes()) {
@@ -117,11 +117,11 @@ fn separator(alloc: Global, part: &Part<'_>) -> Result<Option<u8>, ConfigFault>
     }
 }
 
-fn names(alloc: Global, part: &Part<'_>) -> Result<Names, ConfigFault>
-    ensures read { IsRead (words.names_of (part_of part.now)) result }
-    ensures fit { IfOk result words.NamesFit }
+fn names(alloc: Global, part: &TomlTable<'_>) -> Result<NameSettings, ConfigFault>
+    ensures read { IsRead (names_of (part_of part.now)) result }
+    ensures fit { IfOk result NamesFit }
 {
-    Ok(Names {
+    Ok(NameSettings {
         server_pid: part.number(alloc, "server_pid", 0, 4_294_967_295, 1)? as u32,
         host: host(alloc, part)?,
         mechanisms: mechanisms(alloc, part)?,
@@ -133,11 +133,11 @@ fn names(alloc: Global, part: &Part<'_>) -> Result<Names, ConfigFault>
 
 // ---- the rest
 
-fn spans(alloc: Global, part: &Part<'_>) -> Result<Spans, ConfigFault>
-    ensures read { IsRead (words.spans_of (part_of part.now)) result }
-    ensures fit { IfOk result words.SpansFit }
+fn spans(alloc: Global, part: &TomlTable<'_>) -> Result<Durations, ConfigFault>
+    ensures read { IsRead (spans_of (part_of part.now)) result }
+    ensures fit { IfOk result SpansFit }
 {
-    Ok(Spans {
+    Ok(Durations {
         failure_delay: part.number(alloc, "failure_delay", 0, 60_000, 2_000)?,
         cache_size: part.number(alloc, "cache_size", 0, 100_000, 0)? as u32,
         cache_ttl: part.number(alloc, "cache_ttl", 0, 86_400_000, 3_600_000)?,
@@ -146,8 +146,8 @@ fn spans(alloc: Global, part: &Part<'_>) -> Result<Spans, ConfigFault>
     })
 }
 
-fn command(alloc: Global, part: &Part<'_>) -> Result<Texts, ConfigFault>
-    ensures read { IsRead (words.command_of (part_of part.now)) result }
+fn command(alloc: Global, part: &TomlTable<'_>) -> Result<Texts, ConfigFault>
+    ensures read { IsRead (command_of (part_of part.now)) result }
     ensures fit { IfOk result (λ texts. length texts ≤ 16) }
 {
     let texts = part.texts(alloc, "worker_command", Texts::new(Vec::new(alloc)))?;
@@ -157,9 +157,9 @@ fn command(alloc: Global, part: &Part<'_>) -> Result<Texts, ConfigFault>
     Ok(texts)
 }
 
-fn workers(alloc: Global, part: &Part<'_>) -> Result<Workers, ConfigFault>
-    ensures read { IsRead (words.workers_of (part_of part.now)) result }
-    ensures fit { IfOk result words.WorkersFit }
+fn workers(alloc: Global, part: &TomlTable<'_>) -> Result<Workers, ConfigFault>
+    ensures read { IsRead (workers_of (part_of part.now)) result }
+    ensures fit { IfOk result WorkersFit }
 {
     Ok(Workers {
         workers: part.number(alloc, "workers", 1, 64, 2)? as u32,
@@ -169,9 +169,9 @@ fn workers(alloc: Global, part: &Part<'_>) -> Result<Workers, ConfigFault>
     })
 }
 
-fn limits(alloc: Global, part: &Part<'_>) -> Result<Limits, ConfigFault>
-    ensures read { IsRead (words.limits_of (part_of part.now)) result }
-    ensures fit { IfOk result words.LimitsFit }
+fn limits(alloc: Global, part: &TomlTable<'_>) -> Result<Limits, ConfigFault>
+    ensures read { IsRead (limits_of (part_of part.now)) result }
+    ensures fit { IfOk result LimitsFit }
 {
     Ok(Limits {
         history_entries: part.number(alloc, "history_entries", 1, 500_000, 500_000)?,
@@ -180,9 +180,9 @@ fn limits(alloc: Global, part: &Part<'_>) -> Result<Limits, ConfigFault>
     })
 }
 
-fn databases(alloc: Global, part: &Part<'_>) -> Result<Databases, ConfigFault>
-    ensures read { IsRead (words.databases_of (part_of part.now)) result }
-    ensures fit { IfOk result words.DatabasesFit }
+fn databases(alloc: Global, part: &TomlTable<'_>) -> Result<Databases, ConfigFault>
+    ensures read { IsRead (databases_of (part_of part.now)) result }
+    ensures fit { IfOk result DatabasesFit }
 {
     let password_tables = part.tables(alloc, "passdb", 1)?;
     let user_tables = part.tables(alloc, "userdb", 0)?;
@@ -193,8 +193,8 @@ fn databases(alloc: Global, part: &Part<'_>) -> Result<Databases, ConfigFault>
 }
 
 /// The settings that the table of the whole document says.
-pub fn settings(alloc: Global, part: &Part<'_>) -> Result<Settings, ConfigFault>
-    ensures { IsRead (words.settings_in (part_of part.now)) result }
+pub fn settings(alloc: Global, part: &TomlTable<'_>) -> Result<Settings, ConfigFault>
+    ensures { IsRead (settings_in (part_of part.now)) result }
 {
     part.check_keys(alloc, &KEYS)?;
     let names = names(alloc, part)?;

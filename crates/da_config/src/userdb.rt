@@ -3,12 +3,12 @@ ghost use Rattle.std.specs.Prelude.{◌≡◌, true, IfOk};
 ghost use Rattle.da_userdb.specs.UserChain.{is_valid_userdb};
 ghost use Rattle.da_config.specs.Reading.{IsRead};
 ghost use Rattle.da_config.specs.Parts.{part_of};
-ghost use Rattle.da_config.specs.Databases as words;
+ghost use Rattle.da_config.specs.Databases.{user_driver_of, user_skip_of, userdb_of};
 
 use crate::choices::{user_driver_called, user_skip_called};
 use crate::fault::{ConfigFault, FaultKind};
 use crate::fields::fields;
-use crate::part::Part;
+use crate::part::TomlTable;
 use crate::passdb::rule;
 use da_userdb::{UserDriver, UserSkip, Userdb};
 use std::alloc::Global;
@@ -24,8 +24,8 @@ const KEYS: [&str; 8] = [
     "override_fields",
 ];
 
-fn driver(alloc: Global, part: &Part<'_>) -> Result<UserDriver, ConfigFault>
-    ensures { IsRead (words.user_driver_of (part_of part.now)) result }
+fn driver(alloc: Global, part: &TomlTable<'_>) -> Result<UserDriver, ConfigFault>
+    ensures { IsRead (user_driver_of (part_of part.now)) result }
 {
     let text = part.needed(alloc, "driver")?;
     match user_driver_called(text.bytes()) {
@@ -34,8 +34,8 @@ fn driver(alloc: Global, part: &Part<'_>) -> Result<UserDriver, ConfigFault>
     }
 }
 
-fn skip(alloc: Global, part: &Part<'_>) -> Result<UserSkip, ConfigFault>
-    ensures { IsRead (words.user_skip_of (part_of part.now)) result }
+fn skip(alloc: Global, part: &TomlTable<'_>) -> Result<UserSkip, ConfigFault>
+    ensures { IsRead (user_skip_of (part_of part.now)) result }
 {
     let text = part.text(alloc, "skip", b"never")?;
     match user_skip_called(text.bytes()) {
@@ -45,8 +45,8 @@ fn skip(alloc: Global, part: &Part<'_>) -> Result<UserSkip, ConfigFault>
 }
 
 /// The user database of this number, from its table.
-pub fn userdb(alloc: Global, part: &Part<'_>, number: u32) -> Result<Userdb, ConfigFault>
-    ensures read { IsRead (words.userdb_of number (part_of part.now)) result }
+pub fn userdb(alloc: Global, part: &TomlTable<'_>, number: u32) -> Result<Userdb, ConfigFault>
+    ensures read { IsRead (userdb_of number (part_of part.now)) result }
     ensures fit { IfOk result (λ db. (db.number ≡ number) × (is_valid_userdb db ≡ true)) }
 {
     part.check_keys(alloc, &KEYS)?;

@@ -31,15 +31,15 @@ pub fn merge(
 /// The fields that a client is told: those that aren't for the user databases and have none of the keys `allow_nets`,
 /// `nodelay`, `password`, `user`, `reason` and `resp`.
 pub fn visible(alloc: Global, fields: &Fields) -> Result<Fields, AllocError>
-    ensures { IfOk result (λ told. told ≡ visible fields.now) }
+    ensures { IfOk result (λ reported. reported ≡ visible fields.now) }
 {
-    let mut told = Vec::new(alloc);
+    let mut reported = Vec::new(alloc);
     for (key, value) in fields.pairs() {
         if !is_hidden(key.bytes()) {
-            told.push((key.copy(alloc)?, value.copy(alloc)?))?;
+            reported.push((key.copy(alloc)?, value.copy(alloc)?))?;
         }
     }
-    Ok(Fields::of_distinct(told))
+    Ok(Fields::of_distinct(reported))
 }
 
 /// The fields for the user databases, whose keys begin with `userdb_` and something after it, without that beginning.

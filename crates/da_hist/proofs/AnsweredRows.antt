@@ -4,20 +4,20 @@ use Rattle.std.proofs.lemmas.Option.{same_Some}
 use Rattle.da_base.specs.Words.{nth}
 use Rattle.da_fields.specs.declared.answer.Answer.{Answer}
 use Rattle.da_hist.specs.declared.settings.Settings.{Settings}
-use Rattle.da_hist.specs.declared.state.Asked.{Asked}
+use Rattle.da_hist.specs.declared.state.QueryRow.{QueryRow}
 use Rattle.da_hist.specs.declared.state.Request.{Request}
-use Rattle.da_hist.specs.InPlace.{answered_with}
-use Rattle.da_hist.specs.Queries.{answered_by, tested_by, with_test}
+use Rattle.da_hist.specs.Bridges.{answered_with}
+use Rattle.da_hist.specs.Queries.{answered_by, compared_by, with_comparison}
 
-abbrev pub IsOwnTest : Settings → List Request → Answer → Option Bool → Asked → Type 0
-IsOwnTest settings rs answer test a = (tests : List Bool) → with_test test tests ≡ tested_by settings (nth rs a.request) a.question answer tests
+abbrev pub IsOwnTest : Settings → List Request → Answer → Option Bool → QueryRow → Type 0
+IsOwnTest settings rs answer comparison a = (comparisons : List Bool) → with_comparison comparison comparisons ≡ compared_by settings (nth rs a.request) a.question answer comparisons
 
 -- a query with what its own use found
-pub answered-alike : (settings : Settings) (moment : ℕ) (answer : Answer) (test : Option Bool) (rs : List Request) (qs : List Asked) (number : ℕ) (a b : Asked) →
-    Some b ≡ nth qs number → nth qs number ≡ Some a → IsOwnTest settings rs answer test b →
-    answered_with moment test answer a ≡ answered_by settings moment (nth rs a.request) answer a
-answered-alike settings moment answer test rs qs number a b there here own =
-    ap with_tests (subst (λ (q : Asked). IsOwnTest settings rs answer test q) (same_Some b a (there ∙ here)) own a.tests)
+pub answered-alike : (settings : Settings) (moment : ℕ) (answer : Answer) (comparison : Option Bool) (rs : List Request) (qs : List QueryRow) (number : ℕ) (a b : QueryRow) →
+    Some b ≡ nth qs number → nth qs number ≡ Some a → IsOwnTest settings rs answer comparison b →
+    answered_with moment comparison answer a ≡ answered_by settings moment (nth rs a.request) answer a
+answered-alike settings moment answer comparison rs qs number a b there here own =
+    ap with_tests (subst (λ (q : QueryRow). IsOwnTest settings rs answer comparison q) (same_Some b a (there ∙ here)) own a.comparisons)
   where
-    with_tests : List Bool → Asked
-    with_tests tests = record a { answer = Some (answer, moment); tests = tests }
+    with_tests : List Bool → QueryRow
+    with_tests comparisons = record a { answer = Some (answer, moment); comparisons = comparisons }

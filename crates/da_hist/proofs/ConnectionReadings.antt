@@ -19,22 +19,22 @@ use Rattle.da_msgs.specs.declared.master.MasterMsg.{MasterMsg}
 use Rattle.da_msgs.specs.declared.master.MasterMsg.TheVariants.{Version as MasterVersion, Request as LookupRequest, Other as MasterOther}
 use Rattle.da_hist.specs.Connections.{client_may, master_may, request_number}
 use Rattle.da_hist.specs.Effects.{effects, opened_by}
-use Rattle.da_hist.specs.History.{state, after, heard, with_due_replied, taken}
-use Rattle.da_hist.specs.LinesHeard.{new_request, continues, cancels, obeys, obeys_master, client_line, master_line, line_on, line_by, with_text, versioned, with_pid, is_awaiting, is_cancellable}
-use Rattle.da_hist.specs.Queries.{answers_request, records, records_for, recorded_answer, is_running, first_waiting}
-use Rattle.da_hist.specs.ReadingLaws.{WasOpened, NoneEnds, OpenIsOpened, ConnectionsAreRead, ends, ends_by}
+use Rattle.da_hist.specs.History.{tables_of, after, after_input, with_due_replied, as_taken}
+use Rattle.da_hist.specs.Lines.{new_request, continues, cancels, after_client_message, after_master_message, client_line, master_line, line_on, line_by, with_text, with_version, with_pid, is_awaiting, is_cancellable}
+use Rattle.da_hist.specs.Queries.{answers_request, after_answer, after_answer_for, recorded_answer, is_running, first_waiting}
+use Rattle.da_hist.specs.RowReadings.{WasOpened, NoneEnds, OpenIsOpened, ConnectionsAreRead, ends, ends_by}
 use Rattle.da_hist.specs.Requests.{is_undecided}
 use Rattle.da_hist.specs.StandingLaws.{TablesStand}
-use Rattle.da_hist.specs.Tables.{Heard, moving, moving_none, moving_new, closing, with_end, with_connection, with_request, with_query, cancelled, closed, is_client, is_open_in}
+use Rattle.da_hist.specs.Tables.{AfterInput, continuing, continuing_none, continuing_new, closing, with_end, with_connection, with_request, with_query, cancelled, closed, is_client, is_open_in}
 use Rattle.da_hist.specs.declared.input.Entry.{Entry}
 use Rattle.da_hist.specs.declared.input.Input.{Input}
 use Rattle.da_hist.specs.declared.input.Input.TheVariants.{Opened, Line, Broken, Gone, Take, Answered, Late, Tick}
 use Rattle.da_hist.specs.declared.settings.Settings.{Settings}
-use Rattle.da_hist.specs.declared.state.Asked.{Asked}
+use Rattle.da_hist.specs.declared.state.QueryRow.{QueryRow}
 use Rattle.da_hist.specs.declared.state.Body.TheVariants.{Authenticates, LooksUp}
 use Rattle.da_hist.specs.declared.state.Connection.{Connection}
 use Rattle.da_hist.specs.declared.state.Request.{Request}
-use Rattle.da_hist.specs.declared.state.State.{State}
+use Rattle.da_hist.specs.declared.state.Tables.{Tables}
 
 abbrev open_at : List Connection → ℕ → Bool
 open_at cs conn = passes_option (λ c. c.is_open) (nth cs conn)
@@ -86,72 +86,72 @@ opened_open cs c conn o = go (same_or_not conn (suc (length cs)))
 
 -- ---- what an input does, with the connection that the server closes
 
-module _ (settings : Settings) (moment : ℕ) (before : State) where
+module _ (settings : Settings) (moment : ℕ) (before : Tables) where
   -- open is what was open, but for what is closed
-  abbrev Leaves : Heard → Type 0
-  Leaves h = (conn : ℕ) → is_open_in h.state conn ≡ (is_open_in before conn && not (names conn h.closed))
+  abbrev Leaves : AfterInput → Type 0
+  Leaves h = (conn : ℕ) → is_open_in h.tables conn ≡ (is_open_in before conn && not (names conn h.closed))
 
-  leaves : (st : State) (m : Option ℕ) → ((conn : ℕ) → is_open_in st conn ≡ is_open_in before conn) → Leaves (record { state = st; mover = m; closed = None })
-  leaves st m h conn = h conn ∙ sym (and_true (is_open_in before conn))
+  leaves : (tables : Tables) (m : Option ℕ) → ((conn : ℕ) → is_open_in tables conn ≡ is_open_in before conn) → Leaves (record { tables = tables; continued = m; closed = None })
+  leaves tables m h conn = h conn ∙ sym (and_true (is_open_in before conn))
 
   leaves_closing : (c : ℕ) → Leaves (closing c before)
   unfolding with_end
   leaves_closing c conn = closed_open before.connections c conn
 
   leaves_continues : (n : ℕ) (text : Bytes) → Leaves (continues settings n text before)
-  leaves_continues n text = by_test Leaves (passes_option (is_awaiting settings) (nth before.requests n)) (moving n (with_request (with_text text) n before)) (moving_none before)
+  leaves_continues n text = by_test Leaves (passes_option (is_awaiting settings) (nth before.requests n)) (continuing n (with_request (with_text text) n before)) (continuing_none before)
       (λ e. leaves (with_request (with_text text) n before) (Some n) (λ conn. refl)) (λ e. leaves before None (λ conn. refl))
 
   leaves_cancels : (n : ℕ) → Leaves (cancels settings n before)
-  leaves_cancels n = by_test Leaves (passes_option (is_cancellable settings before n) (nth before.requests n)) (moving_none (with_request cancelled n before)) (moving_none before)
+  leaves_cancels n = by_test Leaves (passes_option (is_cancellable settings before n) (nth before.requests n)) (continuing_none (with_request cancelled n before)) (continuing_none before)
       (λ e. leaves (with_request cancelled n before) None (λ conn. refl)) (λ e. leaves before None (λ conn. refl))
 
-  leaves_obeys : (c : ℕ) (random : Bytes) (message : ClientMsg) → Leaves (obeys settings moment c random message before)
-  leaves_obeys c random (Version major minor) = leaves (with_connection versioned c before) None (told_open versioned (λ x. refl) before.connections c)
+  leaves_obeys : (c : ℕ) (random : Bytes) (message : ClientMsg) → Leaves (after_client_message settings moment c random message before)
+  leaves_obeys c random (Version major minor) = leaves (with_connection with_version c before) None (told_open with_version (λ x. refl) before.connections c)
   leaves_obeys c random (Pid pid) = leaves (with_connection (with_pid pid) c before) None (told_open (with_pid pid) (λ x. refl) before.connections c)
   leaves_obeys c random (Auth id mech params resp) = λ conn. sym (and_true (is_open_in before conn))
   leaves_obeys c random (Cont id text) = leaves_continues (request_number before c id) text
   leaves_obeys c random (Cancel id) = leaves_cancels (request_number before c id)
   leaves_obeys c random Other = leaves before None (λ conn. refl)
 
-  leaves_obeys_master : (c : ℕ) (random : Bytes) (message : MasterMsg) → Leaves (obeys_master settings moment c random message before)
-  leaves_obeys_master c random (MasterVersion major minor) = leaves (with_connection versioned c before) None (told_open versioned (λ x. refl) before.connections c)
+  leaves_obeys_master : (c : ℕ) (random : Bytes) (message : MasterMsg) → Leaves (after_master_message settings moment c random message before)
+  leaves_obeys_master c random (MasterVersion major minor) = leaves (with_connection with_version c before) None (told_open with_version (λ x. refl) before.connections c)
   leaves_obeys_master c random (LookupRequest id pid client cookie) = λ conn. sym (and_true (is_open_in before conn))
   leaves_obeys_master c random MasterOther = leaves before None (λ conn. refl)
 
   leaves_client : (c : ℕ) (random : Bytes) (row : Connection) (o : Option ClientMsg) → Leaves (client_line settings moment c random row o before)
   leaves_client c random row None = leaves_closing c
-  leaves_client c random row (Some message) = by_test Leaves (client_may before c row message) (obeys settings moment c random message before) (closing c before) (λ e. leaves_obeys c random message) (λ e. leaves_closing c)
+  leaves_client c random row (Some message) = by_test Leaves (client_may before c row message) (after_client_message settings moment c random message before) (closing c before) (λ e. leaves_obeys c random message) (λ e. leaves_closing c)
 
   leaves_master : (c : ℕ) (random : Bytes) (row : Connection) (o : Option MasterMsg) → Leaves (master_line settings moment c random row o before)
   leaves_master c random row None = leaves_closing c
-  leaves_master c random row (Some message) = by_test Leaves (master_may before c row message) (obeys_master settings moment c random message before) (closing c before) (λ e. leaves_obeys_master c random message) (λ e. leaves_closing c)
+  leaves_master c random row (Some message) = by_test Leaves (master_may before c row message) (after_master_message settings moment c random message before) (closing c before) (λ e. leaves_obeys_master c random message) (λ e. leaves_closing c)
 
   leaves_line : (c : ℕ) (text random : Bytes) (o : Option Connection) → Leaves (line_on settings moment c text random o before)
   leaves_line c text random None = leaves before None (λ conn. refl)
-  leaves_line c text random (Some row) = by_test Leaves row.is_open (line_by settings moment c text random row before) (moving_none before)
+  leaves_line c text random (Some row) = by_test Leaves row.is_open (line_by settings moment c text random row before) (continuing_none before)
       (λ e. by_test Leaves (is_client row.kind) _ _ (λ d. leaves_client c random row (client_message text)) (λ d. leaves_master c random row (master_message text)))
       (λ e. leaves before None (λ conn. refl))
 
-  leaves_answers : (query : ℕ) (a : Asked) (answer : Answer) → Leaves (records_for settings moment query a answer before)
+  leaves_answers : (query : ℕ) (a : QueryRow) (answer : Answer) → Leaves (after_answer_for settings moment query a answer before)
   leaves_answers query a answer = by_test Leaves (passes_option is_undecided (nth before.requests a.request)) _ _ (λ e conn. sym (and_true (is_open_in before conn))) (λ e conn. sym (and_true (is_open_in before conn)))
 
-  leaves_records : (query : ℕ) (answer : Answer) (o : Option Asked) → Leaves (records settings moment query answer o before)
+  leaves_records : (query : ℕ) (answer : Answer) (o : Option QueryRow) → Leaves (after_answer settings moment query answer o before)
   leaves_records query answer None = leaves before None (λ conn. refl)
-  leaves_records query answer (Some a) = by_test Leaves (is_running a) (records_for settings moment query a (recorded_answer a.question.kind answer) before) (moving_none before)
+  leaves_records query answer (Some a) = by_test Leaves (is_running a) (after_answer_for settings moment query a (recorded_answer a.question.kind answer) before) (continuing_none before)
       (λ e. leaves_answers query a (recorded_answer a.question.kind answer)) (λ e. leaves before None (λ conn. refl))
 
   -- whether it is open after an input: it was opened, or was open and isn't ended
-  abbrev OpenAfter : Input → Heard → Type 0
-  OpenAfter input h = (conn : ℕ) → is_open_in h.state conn ≡ (names conn (opened_by input before) || (is_open_in before conn && not (ends_by input h.closed conn)))
+  abbrev OpenAfter : Input → AfterInput → Type 0
+  OpenAfter input h = (conn : ℕ) → is_open_in h.tables conn ≡ (names conn (opened_by input before) || (is_open_in before conn && not (ends_by input h.closed conn)))
 
-  open_heard : (input : Input) → OpenAfter input (heard settings moment input before)
-  unfolding heard
+  open_heard : (input : Input) → OpenAfter input (after_input settings moment input before)
+  unfolding after_input
   open_heard (Opened kind random) conn = opened_open before.connections _ conn refl ∙ ap (λ (b : Bool). (suc (length before.connections) == conn) || b) (sym (and_true (is_open_in before conn)))
   open_heard (Line c text random) conn = leaves_line c text random (nth before.connections c) conn
   open_heard (Broken c) conn = leaves_closing c conn
   open_heard (Gone c) conn = leaves_closing c conn
-  open_heard Take conn = leaves (with_query (taken moment) (first_waiting before) before) None (λ conn. refl) conn
+  open_heard Take conn = leaves (with_query (as_taken moment) (first_waiting before) before) None (λ conn. refl) conn
   open_heard (Answered query answer) conn = leaves_records query answer (nth before.queries query) conn
   open_heard (Late query) conn = leaves_records query (Internal WasLate) (nth before.queries query) conn
   open_heard Tick conn = leaves before None (λ conn. refl) conn
@@ -159,38 +159,38 @@ module _ (settings : Settings) (moment : ℕ) (before : State) where
 -- ---- one entry
 
 module _ (settings : Settings) (e : Entry) (g : List Entry) where
-  abbrev now : State
-  now = with_due_replied settings e.moment (state settings g)
+  abbrev now : Tables
+  now = with_due_replied settings e.moment (tables_of settings g)
 
-  abbrev h : Heard
-  h = heard settings e.moment e.input now
+  abbrev h : AfterInput
+  h = after_input settings e.moment e.input now
 
-  same_now : State → Option ℕ → List ℕ → Type 0
-  same_now st m done = st.connections ≡ h.state.connections
+  same_now : Tables → Option ℕ → List ℕ → Type 0
+  same_now tables m done = tables.connections ≡ h.tables.connections
 
-  same_after : State → Option ℕ → Type 0
-  same_after st m = st.connections ≡ h.state.connections
+  same_after : Tables → Option ℕ → Type 0
+  same_after tables m = tables.connections ≡ h.tables.connections
 
   moved_same : MovedParts settings e.moment now e.input e.hits same_now same_after
   unfolding same_now same_after
   moved_same = record {
-    hit = λ st mover number done rest a p is x w u q. q;
-    misses = λ st mover number done rest x w q. q;
-    rests = λ st q. q;
-    awaits = λ st n r text is u x q. q;
-    asks = λ st n r question is u x q. q;
-    decides = λ st n r d is u x q. q;
-    kept = λ st m query given a l run is k q. q;
+    hit = λ tables continued number done rest a p is x w u q. q;
+    misses = λ tables continued number done rest x w q. q;
+    rests = λ tables q. q;
+    awaits = λ tables n r text is u x q. q;
+    asks = λ tables n r question is u x q. q;
+    decides = λ tables n r d is u x q. q;
+    kept = λ tables m query given a l run is k q. q;
   }
 
-  connections_after : (after settings (state settings g) e).connections ≡ h.state.connections
+  connections_after : (after settings (tables_of settings g) e).connections ≡ h.tables.connections
   unfolding after same_now same_after
   connections_after =
       let s : IsSound settings e.moment now e.input (λ x m. TablesStand now x) _ h =
       sound_heard settings e.moment now e.input (λ x m. TablesStand now x) (heard_stands settings e.moment now now e.input e.hits) e.input refl (all_same now) in
-      moved_gives settings e.moment now e.input e.hits same_now same_after moved_same h refl s.mover
+      moved_gives settings e.moment now e.input e.hits same_now same_after moved_same h refl s.continued
 
-  opened_same : (input : Input) → opened_by input now ≡ opened_by input (state settings g)
+  opened_same : (input : Input) → opened_by input now ≡ opened_by input (tables_of settings g)
   unfolding with_due_replied
   opened_same (Opened kind random) = refl
   opened_same (Line conn text random) = refl
@@ -201,7 +201,7 @@ module _ (settings : Settings) (e : Entry) (g : List Entry) where
   opened_same (Late query) = refl
   opened_same Tick = refl
 
-  open_step : (conn : ℕ) → is_open_in (state settings (e ∷ g)) conn ≡ (names conn (effects settings (state settings g) e).opened || (is_open_in (state settings g) conn && not (ends settings g e conn)))
+  open_step : (conn : ℕ) → is_open_in (tables_of settings (e ∷ g)) conn ≡ (names conn (effects settings (tables_of settings g) e).opened || (is_open_in (tables_of settings g) conn && not (ends settings g e conn)))
   unfolding effects with_due_replied
   open_step conn = ap (λ cs. open_at cs conn) connections_after ∙ open_heard settings e.moment now e.input conn
       ∙ ap (λ (o : Option ℕ). names conn o || (is_open_in now conn && not (ends_by e.input h.closed conn))) (opened_same e.input)
@@ -217,39 +217,39 @@ module _ (settings : Settings) where
   named conn None x = absurd (true≢false (sym x))
   named conn (Some n) x = ap (λ (k : ℕ). Some k) (eqb-true n conn x)
 
-  by_entry : (h : List Entry) (conn : ℕ) → is_open_in (state settings h) conn ≡ true → WasOpened settings h conn
+  by_entry : (h : List Entry) (conn : ℕ) → is_open_in (tables_of settings h) conn ≡ true → WasOpened settings h conn
   by_entry [] zero o = absurd (true≢false (sym o))
   by_entry [] (suc conn) o = absurd (true≢false (sym o))
-  by_entry (e ∷ g) conn o = go (by_entry g conn) (ors (names conn (effects settings (state settings g) e).opened) _ (sym (open_step settings e g conn) ∙ o))
+  by_entry (e ∷ g) conn o = go (by_entry g conn) (ors (names conn (effects settings (tables_of settings g) e).opened) _ (sym (open_step settings e g conn) ∙ o))
     where
-      go : (is_open_in (state settings g) conn ≡ true → WasOpened settings g conn) →
-          (names conn (effects settings (state settings g) e).opened ≡ true) ⊎ ((is_open_in (state settings g) conn && not (ends settings g e conn)) ≡ true) → WasOpened settings (e ∷ g) conn
-      go earlier (inl x) = record { newer = []; entry = e; older = g; stands = refl; opens = named conn _ x; none_ends = tt }
+      go : (is_open_in (tables_of settings g) conn ≡ true → WasOpened settings g conn) →
+          (names conn (effects settings (tables_of settings g) e).opened ≡ true) ⊎ ((is_open_in (tables_of settings g) conn && not (ends settings g e conn)) ≡ true) → WasOpened settings (e ∷ g) conn
+      go earlier (inl x) = record { newer = []; entry = e; older = g; is_there = refl; opens = named conn _ x; none_ends = tt }
       go earlier (inr x) =
-          let old : WasOpened settings g conn = earlier (and_first (is_open_in (state settings g) conn) _ x) in
+          let old : WasOpened settings g conn = earlier (and_first (is_open_in (tables_of settings g) conn) _ x) in
           record {
             newer = e ∷ old.newer;
             entry = old.entry;
             older = old.older;
-            stands = ap (λ (y : List Entry). e ∷ y) old.stands;
+            is_there = ap (λ (y : List Entry). e ∷ y) old.is_there;
             opens = old.opens;
-            none_ends = (ap (λ (y : List Entry). ends settings y e conn) (sym old.stands) ∙ not_true (ends settings g e conn) (and_second (is_open_in (state settings g) conn) _ x), old.none_ends);
+            none_ends = (ap (λ (y : List Entry). ends settings y e conn) (sym old.is_there) ∙ not_true (ends settings g e conn) (and_second (is_open_in (tables_of settings g) conn) _ x), old.none_ends);
           }
 
-  still_open : (newer : List Entry) (entry : Entry) (older : List Entry) (conn : ℕ) → (effects settings (state settings older) entry).opened ≡ Some conn → NoneEnds settings newer (entry ∷ older) conn →
-      is_open_in (state settings (newer ++ entry ∷ older)) conn ≡ true
-  still_open [] entry older conn opens none = open_step settings entry older conn ∙ ap (λ (b : Bool). b || (is_open_in (state settings older) conn && not (ends settings older entry conn))) (ap (names conn) opens ∙ eq-eqb conn conn refl)
+  still_open : (newer : List Entry) (entry : Entry) (older : List Entry) (conn : ℕ) → (effects settings (tables_of settings older) entry).opened ≡ Some conn → NoneEnds settings newer (entry ∷ older) conn →
+      is_open_in (tables_of settings (newer ++ entry ∷ older)) conn ≡ true
+  still_open [] entry older conn opens none = open_step settings entry older conn ∙ ap (λ (b : Bool). b || (is_open_in (tables_of settings older) conn && not (ends settings older entry conn))) (ap (names conn) opens ∙ eq-eqb conn conn refl)
   still_open (e ∷ newer) entry older conn opens none =
       open_step settings e (newer ++ entry ∷ older) conn
-      ∙ or_last (names conn (effects settings (state settings (newer ++ entry ∷ older)) e).opened)
+      ∙ or_last (names conn (effects settings (tables_of settings (newer ++ entry ∷ older)) e).opened)
       (ap₂ (λ (a b : Bool). a && not b) (still_open newer entry older conn opens none.1) none.0)
     where
       or_last : (a : Bool) {b : Bool} → b ≡ true → (a || b) ≡ true
       or_last true x = refl
       or_last false x = x
 
-  of_entry : (h : List Entry) (conn : ℕ) → WasOpened settings h conn → is_open_in (state settings h) conn ≡ true
-  of_entry h conn w = ap (λ (x : List Entry). is_open_in (state settings x) conn) w.stands ∙ still_open w.newer w.entry w.older conn w.opens w.none_ends
+  of_entry : (h : List Entry) (conn : ℕ) → WasOpened settings h conn → is_open_in (tables_of settings h) conn ≡ true
+  of_entry h conn w = ap (λ (x : List Entry). is_open_in (tables_of settings x) conn) w.is_there ∙ still_open w.newer w.entry w.older conn w.opens w.none_ends
 
 pub connections_are_read : ConnectionsAreRead
 connections_are_read settings = record { by_entry = by_entry settings; of_entry = of_entry settings }

@@ -53,8 +53,8 @@ decided_in_time moment span None e = absurd (true≢false (sym e))
 decided_in_time moment span (Some decided) e = (decided, refl, at_most (later decided span) moment e)
 
 pub failures_wait : FailuresWait
-failures_wait settings e g n r user authz temp disabled reason told here failed delays =
-    let due = replies_are_due settings e g n told in
+failures_wait settings e g n r user authz temp disabled reason reported here failed delays =
+    let due = replies_are_due settings e g n reported in
     let same : due.0 ≡ r = same_Some due.0 r (sym due.1 ∙ here) in
     let in_time = decided_in_time e.moment (reply_delay settings r) r.decided
     (subst (λ (s : Request). passes_option (λ m. nat_le m e.moment) (due_moment settings s) ≡ true) same due.4) in
@@ -62,15 +62,15 @@ failures_wait settings e g n r user authz temp disabled reason told here failed 
 
 -- ---- nothing is left
 
-none_at : (test : Request → Bool) (rs : List Request) (n : ℕ) (r : Request) → list_any test rs ≡ false → nth rs n ≡ Some r → test r ≡ false
-none_at test rs zero r e here = absurd (none-some r here)
-none_at test [] (suc n) r e here = absurd (none-some r here)
-none_at test (s ∷ rs) (suc zero) r e here = subst (λ x. test x ≡ false) (same_Some s r here) (first (test s) (list_any test rs) e)
+none_at : (comparison : Request → Bool) (rs : List Request) (n : ℕ) (r : Request) → list_any comparison rs ≡ false → nth rs n ≡ Some r → comparison r ≡ false
+none_at comparison rs zero r e here = absurd (none-some r here)
+none_at comparison [] (suc n) r e here = absurd (none-some r here)
+none_at comparison (s ∷ rs) (suc zero) r e here = subst (λ x. comparison x ≡ false) (same_Some s r here) (first (comparison s) (list_any comparison rs) e)
   where
     first : (a b : Bool) → (a || b) ≡ false → a ≡ false
     first true b e = absurd (true≢false e)
     first false b e = refl
-none_at test (s ∷ rs) (suc (suc n)) r e here = none_at test rs (suc n) r (rest (test s) (list_any test rs) e) here
+none_at comparison (s ∷ rs) (suc (suc n)) r e here = none_at comparison rs (suc n) r (rest (comparison s) (list_any comparison rs) e) here
   where
     rest : (a b : Bool) → (a || b) ≡ false → b ≡ false
     rest true b e = absurd (true≢false e)

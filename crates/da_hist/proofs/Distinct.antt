@@ -4,7 +4,7 @@ use Rattle.std.proofs.lemmas.Bool.{eqb-true}
 use Rattle.std.proofs.lemmas.Option.{none-some, same_Some}
 use Rattle.da_hist.proofs.AsksNew.{asks_new}
 use Rattle.da_hist.proofs.Entries.{by_test, and_first, and_second, not_true}
-use Rattle.da_hist.proofs.EntryInduction.{IsUndecidedAt, MoverUndecided}
+use Rattle.da_hist.proofs.EntryInduction.{IsUndecidedAt, ContinuedUndecided}
 use Rattle.da_hist.proofs.EntryParts.{HeardParts, MovedParts, IsSound, sound_heard, moved_gives}
 use Rattle.da_hist.proofs.Keys.{keys_equal}
 use Rattle.da_hist.proofs.KeysLaw.{newest_has}
@@ -17,22 +17,22 @@ use Rattle.da_keys.specs.Keys.{same_key}
 use Rattle.da_keys.specs.declared.key.Key.{Key}
 use Rattle.da_fields.specs.Answers.{Answers, answer_from}
 use Rattle.da_fields.specs.declared.answer.Answer.{Answer}
-use Rattle.da_hist.specs.History.{state, after, heard, with_due_replied, with_decision, replied_if_due}
+use Rattle.da_hist.specs.History.{tables_of, after, after_input, with_due_replied, with_decision, replied_if_due}
 use Rattle.da_hist.specs.Hits.{AreHits, IsUsable, answer_of, with_hit, hit_with, newest}
-use Rattle.da_hist.specs.Legal.{IsLegal, MoverHits}
-use Rattle.da_hist.specs.LinesHeard.{new_request, with_text}
+use Rattle.da_hist.specs.Legal.{IsLegal, ContinuedHits}
+use Rattle.da_hist.specs.Lines.{new_request, with_text}
 use Rattle.da_hist.specs.Queries.{key_of, is_running, with_answer, with_late_answer, recorded_answer}
 use Rattle.da_hist.specs.QueryLaws.{IsAsked, AnswersAreDistinct}
 use Rattle.da_hist.specs.Requests.{is_due, request_stage, question_in, is_undecided}
 use Rattle.da_hist.specs.StandingLaws.{TablesStand, QueryStands}
-use Rattle.da_hist.specs.Tables.{Heard, with_end, cancelled, cancelled_of, is_of}
+use Rattle.da_hist.specs.Tables.{AfterInput, with_end, cancelled, as_cancelled_of, is_of}
 use Rattle.da_hist.specs.declared.input.Entry.{Entry}
 use Rattle.da_hist.specs.declared.input.Input.{Input}
 use Rattle.da_hist.specs.declared.settings.Settings.{Settings}
-use Rattle.da_hist.specs.declared.state.Asked.{Asked}
+use Rattle.da_hist.specs.declared.state.QueryRow.{QueryRow}
 use Rattle.da_hist.specs.declared.state.Question.{Question}
 use Rattle.da_hist.specs.declared.state.Request.{Request}
-use Rattle.da_hist.specs.declared.state.State.{State}
+use Rattle.da_hist.specs.declared.state.Tables.{Tables}
 
 -- no database is named twice
 abbrev AreDistinct : Answers → Type 0
@@ -81,12 +81,12 @@ changed_distinct f rs m h p n r e = go (of_changed f rs m n r e)
 same_answers : (settings : Settings) (moment : ℕ) (r : Request) → (replied_if_due settings moment r).answers ≡ r.answers
 same_answers settings moment r = by_test (λ (x : Request). x.answers ≡ r.answers) (is_due settings moment r) (record r { replied = Some moment }) r (λ e. refl) (λ e. refl)
 
-module _ (settings : Settings) (moment : ℕ) (before : State) (entered : Input) (hits : List ℕ) (asked : AllAsked settings before.requests before.queries) where
+module _ (settings : Settings) (moment : ℕ) (before : Tables) (entered : Input) (hits : List ℕ) (asked : AllAsked settings before.requests before.queries) where
   end_distinct : (conn : ℕ) → AllDistinct before.requests → AllDistinct (with_end conn before).requests
   unfolding with_end
-  end_distinct conn p n r e = go (of_mapped (cancelled_of conn) before.requests n r e)
+  end_distinct conn p n r e = go (of_mapped (as_cancelled_of conn) before.requests n r e)
     where
-      go : (s : Request) × (nth before.requests n ≡ Some s) × (r ≡ cancelled_of conn s) → AreDistinct r.answers
+      go : (s : Request) × (nth before.requests n ≡ Some s) × (r ≡ as_cancelled_of conn s) → AreDistinct r.answers
       go (s, is, w) = subst (λ (x : Request). AreDistinct x.answers) (sym w) (by_test (λ (x : Request). AreDistinct x.answers) (is_of conn s) (cancelled s) s (λ d. p n s is) (λ d. p n s is))
 
   made_distinct : (r : Request) → r.answers ≡ [] → AllDistinct before.requests → AllDistinct (before.requests ++ r ∷ [])
@@ -96,7 +96,7 @@ module _ (settings : Settings) (moment : ℕ) (before : State) (entered : Input)
       go (inl (d, w)) = subst AreDistinct (sym (ap (λ (x : Request). x.answers) w ∙ none)) (λ db. zero-le)
       go (inr is) = p n s is
 
-  unanswered : (a : Asked) → is_running a ≡ true → a.answer ≡ None
+  unanswered : (a : QueryRow) → is_running a ≡ true → a.answer ≡ None
   unanswered a run = go a.answer (not_true (is_some a.answer) (and_second (is_some a.taken) _ run))
     where
       go : (o : Option (Answer × ℕ)) → is_some o ≡ false → o ≡ None
@@ -104,18 +104,18 @@ module _ (settings : Settings) (moment : ℕ) (before : State) (entered : Input)
       go (Some x) e = absurd (true≢false e)
 
   -- the query that is answered is what its request asks, so that it has no answer of this database yet
-  answer_is_new : (query : ℕ) (a : Asked) (answer : Answer) → nth before.queries query ≡ Some a → is_running a ≡ true → (r : Request) → nth before.requests a.request ≡ Some r →
+  answer_is_new : (query : ℕ) (a : QueryRow) (answer : Answer) → nth before.queries query ≡ Some a → is_running a ≡ true → (r : Request) → nth before.requests a.request ≡ Some r →
       AreDistinct r.answers → AreDistinct (with_answer a.question.db answer r).answers
   answer_is_new query a answer is run r at d =
       let row : IsAsked settings before.requests before.queries query a = asked query a is (unanswered a run) in
       one_more r.answers a.question.db answer
-      (asks_new settings r a.question (subst (λ (x : Request). question_in (request_stage settings x) ≡ Some a.question) (same_Some row.request r (sym row.stands ∙ at)) row.asks)) d
+      (asks_new settings r a.question (subst (λ (x : Request). question_in (request_stage settings x) ≡ Some a.question) (same_Some row.request r (sym row.is_there ∙ at)) row.asks)) d
 
-  late_is_new : (query : ℕ) (a : Asked) (answer : Answer) → nth before.queries query ≡ Some a → is_running a ≡ true → (r : Request) → nth before.requests a.request ≡ Some r →
+  late_is_new : (query : ℕ) (a : QueryRow) (answer : Answer) → nth before.queries query ≡ Some a → is_running a ≡ true → (r : Request) → nth before.requests a.request ≡ Some r →
       AreDistinct r.answers → AreDistinct (with_late_answer a.question.db answer r).answers
   late_is_new query a answer is run r at d = by_test (λ (x : Request). AreDistinct x.answers) (is_some r.decided) r (with_answer a.question.db answer r) (λ e. d) (λ e. answer_is_new query a answer is run r at d)
 
-  heard_distinct : HeardParts settings moment before entered (λ st m. AllDistinct st.requests)
+  heard_distinct : HeardParts settings moment before entered (λ tables m. AllDistinct tables.requests)
   heard_distinct = record {
     opens = λ kind random l p. p;
     tells = λ conn change h p. p;
@@ -130,74 +130,74 @@ module _ (settings : Settings) (moment : ℕ) (before : State) (entered : Input)
 
   -- ---- hits
 
-  module _ (origin hs : State) (same : TablesStand origin hs) where
+  module _ (origin hs : Tables) (same : TablesStand origin hs) where
     -- the request that moves has these hits still to come
-    record HasToCome (st : State) (n : ℕ) (done : List ℕ) : Type 0 where
+    record HasToCome (tables : Tables) (n : ℕ) (done : List ℕ) : Type 0 where
       pub request : Request
-      pub stands : nth st.requests n ≡ Some request
+      pub is_there : nth tables.requests n ≡ Some request
       pub to_come : (rest : List ℕ) → done ++ rest ≡ hits → AreHits settings moment origin request rest
 
-    abbrev MoverToCome : State → Option ℕ → List ℕ → Type 0
-    MoverToCome st None done = Unit {0}
-    MoverToCome st (Some n) done = HasToCome st n done
+    abbrev MoverToCome : Tables → Option ℕ → List ℕ → Type 0
+    MoverToCome tables None done = Unit {0}
+    MoverToCome tables (Some n) done = HasToCome tables n done
 
-    record DistinctNow (st : State) (m : Option ℕ) (done : List ℕ) : Type 0 where
-      pub tables : TablesStand origin st
-      pub all : AllDistinct st.requests
-      pub mover : MoverToCome st m done
+    record DistinctNow (tables : Tables) (m : Option ℕ) (done : List ℕ) : Type 0 where
+      pub tables : TablesStand origin tables
+      pub all : AllDistinct tables.requests
+      pub continued : MoverToCome tables m done
 
-    abbrev all_distinct : State → Option ℕ → Type 0
-    all_distinct st m = AllDistinct st.requests
+    abbrev all_distinct : Tables → Option ℕ → Type 0
+    all_distinct tables m = AllDistinct tables.requests
 
-    moved_stand : MovedParts settings moment before entered hits (λ st m done. TablesStand origin st) (λ st m. TablesStand origin st)
+    moved_stand : MovedParts settings moment before entered hits (λ tables m done. TablesStand origin tables) (λ tables m. TablesStand origin tables)
     moved_stand = moved_stands settings moment origin before entered hits
 
     -- the hit is the answer of what is asked
-    hit_is_asked : (st : State) (number : ℕ) (a : Asked) (p : Answer × ℕ) → nth st.queries number ≡ Some a → a.answer ≡ Some p → TablesStand origin st → (r : Request) (q : Question) → IsUsable settings moment origin r q number →
+    hit_is_asked : (tables : Tables) (number : ℕ) (a : QueryRow) (p : Answer × ℕ) → nth tables.queries number ≡ Some a → a.answer ≡ Some p → TablesStand origin tables → (r : Request) (q : Question) → IsUsable settings moment origin r q number →
         (q.db ≡ a.question.db) × (answer_of origin number ≡ Some p.0)
-    hit_is_asked st number a p is e t r q u = go (newest_has origin (key_of q) origin.recordings number u.is_newest)
+    hit_is_asked tables number a p is e t r q u = go (newest_has origin (key_of q) origin.cacheable number u.is_newest)
       where
-        go : (b : Asked) × (nth origin.queries number ≡ Some b) × (same_key (key_of q) (key_of b.question) ≡ true) → (q.db ≡ a.question.db) × (answer_of origin number ≡ Some p.0)
+        go : (b : QueryRow) × (nth origin.queries number ≡ Some b) × (same_key (key_of q) (key_of b.question) ≡ true) → (q.db ≡ a.question.db) × (answer_of origin number ≡ Some p.0)
         go (b, at, k) = later (t.queries number b at)
           where
-            told : answer_of origin number ≡ option_map (λ (x : Answer × ℕ). x.0) b.answer
-            told = ap (option_and_then (λ (x : Asked). option_map (λ (y : Answer × ℕ). y.0) x.answer)) at
+            reported : answer_of origin number ≡ option_map (λ (x : Answer × ℕ). x.0) b.answer
+            reported = ap (option_and_then (λ (x : QueryRow). option_map (λ (y : Answer × ℕ). y.0) x.answer)) at
 
-            later : (c : Asked) × (nth st.queries number ≡ Some c) × QueryStands b c → (q.db ≡ a.question.db) × (answer_of origin number ≡ Some p.0)
+            later : (c : QueryRow) × (nth tables.queries number ≡ Some c) × QueryStands b c → (q.db ≡ a.question.db) × (answer_of origin number ≡ Some p.0)
             later (c, x, s) =
                 let same_row : c ≡ a = same_Some c a (sym x ∙ is) in
-                let recorded : b.answer ≡ Some (u.answer, u.recorded) = ap (λ (y : Asked). y.answer) (same_Some b u.query (sym at ∙ u.stands)) ∙ u.is_recorded in
-                let still : a.answer ≡ Some (u.answer, u.recorded) = sym (ap (λ (y : Asked). y.answer) same_row) ∙ s.answer (u.answer, u.recorded) recorded in (
-                  ap (λ (y : Key). y.db) (keys_equal (key_of q) (key_of b.question) k) ∙ sym (ap (λ (y : Question). y.db) s.question) ∙ ap (λ (y : Asked). y.question.db) same_row,
-                  told ∙ ap (option_map (λ (y : Answer × ℕ). y.0)) (recorded ∙ sym still ∙ e),
+                let recorded : b.answer ≡ Some (u.answer, u.recorded) = ap (λ (y : QueryRow). y.answer) (same_Some b u.query (sym at ∙ u.is_there)) ∙ u.is_answer_recorded in
+                let still : a.answer ≡ Some (u.answer, u.recorded) = sym (ap (λ (y : QueryRow). y.answer) same_row) ∙ s.answer (u.answer, u.recorded) recorded in (
+                  ap (λ (y : Key). y.db) (keys_equal (key_of q) (key_of b.question) k) ∙ sym (ap (λ (y : Question). y.db) s.question) ∙ ap (λ (y : QueryRow). y.question.db) same_row,
+                  reported ∙ ap (option_map (λ (y : Answer × ℕ). y.0)) (recorded ∙ sym still ∙ e),
                 )
 
-    hit_distinct : (st : State) (mover number : ℕ) (done rest : List ℕ) (a : Asked) (p : Answer × ℕ) → nth st.queries number ≡ Some a → a.answer ≡ Some p → done ++ number ∷ rest ≡ hits →
-        TablesStand origin (hit_with settings mover number a p.0 st) → DistinctNow st (Some mover) done → DistinctNow (hit_with settings mover number a p.0 st) (Some mover) (done ++ number ∷ [])
-    hit_distinct st mover number done rest a p is e w t q = go (q.mover.to_come (number ∷ rest) w)
+    hit_distinct : (tables : Tables) (continued number : ℕ) (done rest : List ℕ) (a : QueryRow) (p : Answer × ℕ) → nth tables.queries number ≡ Some a → a.answer ≡ Some p → done ++ number ∷ rest ≡ hits →
+        TablesStand origin (hit_with settings continued number a p.0 tables) → DistinctNow tables (Some continued) done → DistinctNow (hit_with settings continued number a p.0 tables) (Some continued) (done ++ number ∷ [])
+    hit_distinct tables continued number done rest a p is e w t q = go (q.continued.to_come (number ∷ rest) w)
       where
-        go : (question : Question) × (question_in (request_stage settings q.mover.request) ≡ Some question) × IsUsable settings moment origin q.mover.request question number × AreHits settings moment origin (with_hit origin question number q.mover.request) rest →
-            DistinctNow (hit_with settings mover number a p.0 st) (Some mover) (done ++ number ∷ [])
+        go : (question : Question) × (question_in (request_stage settings q.continued.request) ≡ Some question) × IsUsable settings moment origin q.continued.request question number × AreHits settings moment origin (with_hit origin question number q.continued.request) rest →
+            DistinctNow (hit_with settings continued number a p.0 tables) (Some continued) (done ++ number ∷ [])
         go (question, asks, usable, further) = record {
           tables = t;
-          all = changed_distinct (with_answer a.question.db p.0) st.requests mover (λ s at d. grown s at d) q.all;
-          mover = record {
-            request = with_answer a.question.db p.0 q.mover.request;
-            stands = nth-changed (with_answer a.question.db p.0) st.requests mover ∙ ap (option_map (with_answer a.question.db p.0)) q.mover.stands;
-            to_come = λ more x. subst (λ (ns : List ℕ). AreHits settings moment origin (with_answer a.question.db p.0 q.mover.request) ns) (same_rest more x)
+          all = changed_distinct (with_answer a.question.db p.0) tables.requests continued (λ s at d. grown s at d) q.all;
+          continued = record {
+            request = with_answer a.question.db p.0 q.continued.request;
+            is_there = nth-changed (with_answer a.question.db p.0) tables.requests continued ∙ ap (option_map (with_answer a.question.db p.0)) q.continued.is_there;
+            to_come = λ more x. subst (λ (ns : List ℕ). AreHits settings moment origin (with_answer a.question.db p.0 q.continued.request) ns) (same_rest more x)
                 (subst (λ (s : Request). AreHits settings moment origin s rest) hit_is further);
           };
         }
           where
             found : (question.db ≡ a.question.db) × (answer_of origin number ≡ Some p.0)
-            found = hit_is_asked st number a p is e q.tables q.mover.request question usable
+            found = hit_is_asked tables number a p is e q.tables q.continued.request question usable
 
-            hit_is : with_hit origin question number q.mover.request ≡ with_answer a.question.db p.0 q.mover.request
-            hit_is = ap (λ (o : Option Answer). option_or_else o q.mover.request (λ answer. with_answer question.db answer q.mover.request)) found.1 ∙ ap (λ (k : ℕ). with_answer k p.0 q.mover.request) found.0
+            hit_is : with_hit origin question number q.continued.request ≡ with_answer a.question.db p.0 q.continued.request
+            hit_is = ap (λ (o : Option Answer). option_or_else o q.continued.request (λ answer. with_answer question.db answer q.continued.request)) found.1 ∙ ap (λ (k : ℕ). with_answer k p.0 q.continued.request) found.0
 
-            grown : (s : Request) → nth st.requests mover ≡ Some s → AreDistinct s.answers → AreDistinct (with_answer a.question.db p.0 s).answers
+            grown : (s : Request) → nth tables.requests continued ≡ Some s → AreDistinct s.answers → AreDistinct (with_answer a.question.db p.0 s).answers
             grown s at d = one_more s.answers a.question.db p.0
-                (subst (λ (x : Request). answer_from a.question.db x.answers ≡ None) (same_Some q.mover.request s (sym q.mover.stands ∙ at)) (subst (λ (k : ℕ). answer_from k q.mover.request.answers ≡ None) found.0 (asks_new settings q.mover.request question asks))) d
+                (subst (λ (x : Request). answer_from a.question.db x.answers ≡ None) (same_Some q.continued.request s (sym q.continued.is_there ∙ at)) (subst (λ (k : ℕ). answer_from k q.continued.request.answers ≡ None) found.0 (asks_new settings q.continued.request question asks))) d
 
             same_rest : (more : List ℕ) → (done ++ number ∷ []) ++ more ≡ hits → rest ≡ more
             same_rest more x = cancel done (w ∙ sym x ∙ append_assoc done (number ∷ []) more)
@@ -210,67 +210,67 @@ module _ (settings : Settings) (moment : ℕ) (before : State) (entered : Input)
                 cancel [] y = ap tail y
                 cancel (d ∷ ds) y = cancel ds (ap tail y)
 
-    missed : (st : State) (mover number : ℕ) (done rest : List ℕ) → answer_of st number ≡ None → done ++ number ∷ rest ≡ hits → DistinctNow st (Some mover) done → ⊥
-    missed st mover number done rest e w q = go (q.mover.to_come (number ∷ rest) w)
+    missed : (tables : Tables) (continued number : ℕ) (done rest : List ℕ) → answer_of tables number ≡ None → done ++ number ∷ rest ≡ hits → DistinctNow tables (Some continued) done → ⊥
+    missed tables continued number done rest e w q = go (q.continued.to_come (number ∷ rest) w)
       where
-        go : (question : Question) × (question_in (request_stage settings q.mover.request) ≡ Some question) × IsUsable settings moment origin q.mover.request question number
-            × AreHits settings moment origin (with_hit origin question number q.mover.request) rest → ⊥
-        go (question, asks, u, further) = known_stays origin st number q.tables (usable_known settings moment origin q.mover.request question number u) e
+        go : (question : Question) × (question_in (request_stage settings q.continued.request) ≡ Some question) × IsUsable settings moment origin q.continued.request question number
+            × AreHits settings moment origin (with_hit origin question number q.continued.request) rest → ⊥
+        go (question, asks, u, further) = known_stays origin tables number q.tables (usable_known settings moment origin q.continued.request question number u) e
 
     moved_distinct : MovedParts settings moment before entered hits DistinctNow all_distinct
     moved_distinct = record {
-      hit = λ st mover number done rest a p is e w u q. hit_distinct st mover number done rest a p is e w (moved_stand.hit st mover number done rest a p is e w u q.tables) q;
-      misses = λ st mover number done rest e w q. absurd (missed st mover number done rest e w q);
-      rests = λ st q. q.all;
-      awaits = λ st n r text is u e q. q.all;
-      asks = λ st n r question is u e q. q.all;
-      decides = λ st n r d is u e q. changed_distinct (with_decision settings moment) st.requests n (λ s at x. subst AreDistinct (sym (same_answers settings moment (record s { decided = Some moment }))) x) q.all;
-      kept = λ st m query given a l run is k q. q;
+      hit = λ tables continued number done rest a p is e w u q. hit_distinct tables continued number done rest a p is e w (moved_stand.hit tables continued number done rest a p is e w u q.tables) q;
+      misses = λ tables continued number done rest e w q. absurd (missed tables continued number done rest e w q);
+      rests = λ tables q. q.all;
+      awaits = λ tables n r text is u e q. q.all;
+      asks = λ tables n r question is u e q. q.all;
+      decides = λ tables n r d is u e q. changed_distinct (with_decision settings moment) tables.requests n (λ s at x. subst AreDistinct (sym (same_answers settings moment (record s { decided = Some moment }))) x) q.all;
+      kept = λ tables m query given a l run is k q. q;
     }
 
 -- ---- one entry, and a legal history
 
-due_distinct : (settings : Settings) (moment : ℕ) (st : State) → AllDistinct st.requests → AllDistinct (with_due_replied settings moment st).requests
+due_distinct : (settings : Settings) (moment : ℕ) (tables : Tables) → AllDistinct tables.requests → AllDistinct (with_due_replied settings moment tables).requests
 unfolding with_due_replied
-due_distinct settings moment st p n r e = go (of_mapped (replied_if_due settings moment) st.requests n r e)
+due_distinct settings moment tables p n r e = go (of_mapped (replied_if_due settings moment) tables.requests n r e)
   where
-    go : (s : Request) × (nth st.requests n ≡ Some s) × (r ≡ replied_if_due settings moment s) → AreDistinct r.answers
+    go : (s : Request) × (nth tables.requests n ≡ Some s) × (r ≡ replied_if_due settings moment s) → AreDistinct r.answers
     go (s, is, w) = subst AreDistinct (sym (ap (λ (x : Request). x.answers) w ∙ same_answers settings moment s)) (p n s is)
 
-entry_distinct : (settings : Settings) (st : State) (e : Entry) → AllAsked settings st.requests st.queries →
-    MoverHits settings e.moment st (option_and_then (nth (heard settings e.moment e.input (with_due_replied settings e.moment st)).state.requests) (heard settings e.moment e.input (with_due_replied settings e.moment st)).mover) e.hits →
-    AllDistinct st.requests → AllDistinct (after settings st e).requests
+entry_distinct : (settings : Settings) (tables : Tables) (e : Entry) → AllAsked settings tables.requests tables.queries →
+    ContinuedHits settings e.moment tables (option_and_then (nth (after_input settings e.moment e.input (with_due_replied settings e.moment tables)).tables.requests) (after_input settings e.moment e.input (with_due_replied settings e.moment tables)).continued) e.hits →
+    AllDistinct tables.requests → AllDistinct (after settings tables e).requests
 unfolding after
-entry_distinct settings st e asked hits p =
-    let before : State = with_due_replied settings e.moment st in
-    let h : Heard = heard settings e.moment e.input before in
-    let all : AllAsked settings before.requests before.queries = due_all_asked settings e.moment st asked in
+entry_distinct settings tables e asked hits p =
+    let before : Tables = with_due_replied settings e.moment tables in
+    let h : AfterInput = after_input settings e.moment e.input before in
+    let all : AllAsked settings before.requests before.queries = due_all_asked settings e.moment tables asked in
     let s : IsSound settings e.moment before e.input (λ x m. TablesStand before x) _ h =
     sound_heard settings e.moment before e.input (λ x m. TablesStand before x) (heard_stands settings e.moment before before e.input e.hits) e.input refl (all_same before) in
-    let t : TablesStand st h.state = tables_later st before h.state (due_stand settings e.moment st) s.fact in
+    let t : TablesStand tables h.tables = tables_later tables before h.tables (due_stand settings e.moment tables) s.fact in
     let d : IsSound settings e.moment before e.input (λ x m. AllDistinct x.requests) _ h =
-    sound_heard settings e.moment before e.input (λ x m. AllDistinct x.requests) (heard_distinct settings e.moment before e.input e.hits all) e.input refl (due_distinct settings e.moment st p) in
-    moved_gives settings e.moment before e.input e.hits _ _ (moved_distinct settings e.moment before e.input e.hits all st h.state t) h
-    (record { tables = t; all = d.fact; mover = to_come before h all t h.mover s.mover hits }) s.mover
+    sound_heard settings e.moment before e.input (λ x m. AllDistinct x.requests) (heard_distinct settings e.moment before e.input e.hits all) e.input refl (due_distinct settings e.moment tables p) in
+    moved_gives settings e.moment before e.input e.hits _ _ (moved_distinct settings e.moment before e.input e.hits all tables h.tables t) h
+    (record { tables = t; all = d.fact; continued = to_come before h all t h.continued s.continued hits }) s.continued
   where
-    to_come : (before : State) (h : Heard) (all : AllAsked settings before.requests before.queries) (t : TablesStand st h.state) (m : Option ℕ) → MoverUndecided h.state.requests m →
-        MoverHits settings e.moment st (option_and_then (nth h.state.requests) m) e.hits → MoverToCome settings e.moment before e.input e.hits all st h.state t h.state m []
+    to_come : (before : Tables) (h : AfterInput) (all : AllAsked settings before.requests before.queries) (t : TablesStand tables h.tables) (m : Option ℕ) → ContinuedUndecided h.tables.requests m →
+        ContinuedHits settings e.moment tables (option_and_then (nth h.tables.requests) m) e.hits → MoverToCome settings e.moment before e.input e.hits all tables h.tables t h.tables m []
     to_come before h all t None u x = tt
-    to_come before h all t (Some n) u x = go (passing is_undecided (nth h.state.requests n) u)
+    to_come before h all t (Some n) u x = go (passing is_undecided (nth h.tables.requests n) u)
       where
-        go : (r : Request) × (nth h.state.requests n ≡ Some r) × (is_undecided r ≡ true) → HasToCome settings e.moment before e.input e.hits all st h.state t h.state n []
+        go : (r : Request) × (nth h.tables.requests n ≡ Some r) × (is_undecided r ≡ true) → HasToCome settings e.moment before e.input e.hits all tables h.tables t h.tables n []
         go (r, is, w) = record {
           request = r;
-          stands = is;
-          to_come = λ rest y. subst (AreHits settings e.moment st r) (sym y) (subst (λ (o : Option Request). MoverHits settings e.moment st o e.hits) is x);
+          is_there = is;
+          to_come = λ rest y. subst (AreHits settings e.moment tables r) (sym y) (subst (λ (o : Option Request). ContinuedHits settings e.moment tables o e.hits) is x);
         }
 
 start_distinct : AllDistinct []
 start_distinct n r e = absurd (nowhere n r e)
 
-history_distinct : (settings : Settings) (h : List Entry) → IsLegal settings h → AllDistinct (state settings h).requests
+history_distinct : (settings : Settings) (h : List Entry) → IsLegal settings h → AllDistinct (tables_of settings h).requests
 history_distinct settings [] legal = start_distinct
-history_distinct settings (e ∷ g) legal = entry_distinct settings (state settings g) e (history_asked settings g) legal.1.hits (history_distinct settings g legal.0)
+history_distinct settings (e ∷ g) legal = entry_distinct settings (tables_of settings g) e (history_asked settings g) legal.1.hits (history_distinct settings g legal.0)
 
 pub answers_are_distinct : AnswersAreDistinct
 answers_are_distinct settings h legal = history_distinct settings h legal

@@ -8,8 +8,8 @@ use Rattle.da_base.specs.Words.{Bytes, nth, changed_at, changed_nth}
 use Rattle.da_fields.specs.FieldList.{Pairs}
 use Rattle.da_hist.specs.GrantLaws.{WasGranted, UserWasGranted}
 use Rattle.da_hist.specs.Grants.{granted}
-use Rattle.da_hist.specs.History.{state, with_due_replied, with_decision}
-use Rattle.da_hist.specs.LinesHeard.{body_with_text}
+use Rattle.da_hist.specs.History.{tables_of, with_due_replied, with_decision}
+use Rattle.da_hist.specs.Lines.{body_with_text}
 use Rattle.da_hist.specs.Queries.{with_answer}
 use Rattle.da_hist.specs.Requests.{is_due, decision_in, lookup_stage, body_stage, decision, request_stage}
 use Rattle.da_hist.specs.Tables.{is_of}
@@ -23,7 +23,7 @@ use Rattle.da_hist.specs.declared.state.Decision.{Decision}
 use Rattle.da_hist.specs.declared.state.Decision.TheVariants.{UserGiven, UserUnknown, UserFailure}
 use Rattle.da_hist.specs.declared.state.Grant.{Grant}
 use Rattle.da_hist.specs.declared.state.Request.{Request}
-use Rattle.da_hist.specs.declared.state.State.{State}
+use Rattle.da_hist.specs.declared.state.Tables.{Tables}
 use Rattle.da_msgs.specs.MasterMessages.{master_message}
 use Rattle.da_msgs.specs.declared.master.MasterMsg.TheVariants.{Request as LookupRequest}
 use Rattle.da_userdb.specs.UserChain.{user_chain}
@@ -31,7 +31,7 @@ use Rattle.da_userdb.specs.declared.database.Lookup.{Lookup}
 use Rattle.da_userdb.specs.declared.database.UserChain.{UserChain}
 use Rattle.da_userdb.specs.declared.database.UserChain.TheVariants.{Ask as AskUser, Found as UserFound, NotFound as UserNotFound, Temp as UserFailed}
 use Rattle.da_hist.specs.Queries.{with_late_answer}
-use Rattle.da_hist.specs.LinesHeard.{with_text}
+use Rattle.da_hist.specs.Lines.{with_text}
 use Rattle.da_hist.specs.Tables.{cancelled}
 
 -- P holds of the grant of each request
@@ -85,7 +85,7 @@ module _ (P : Made) where
   of_grant R None h = tt
   of_grant R (Some grant) h = h grant refl
 
-  parts : (settings : Settings) (moment : ℕ) (origin : State) (entered : Input) →
+  parts : (settings : Settings) (moment : ℕ) (origin : Tables) (entered : Input) →
       ((conn id pid client : ℕ) (random cookie text : Bytes) (grant : Grant) → entered ≡ Line conn text random → master_message text ≡ Some (LookupRequest id pid client cookie) → granted settings moment (with_due_replied settings moment origin) pid client cookie ≡ Some grant → P conn id random grant) →
       EachPartKeeps settings moment origin entered (AllGrants P)
   unfolding Keeps
@@ -100,9 +100,9 @@ module _ (P : Made) where
     decide = λ rs n u d q. changed_keeps (with_decision settings moment) (λ r p. either_keeps (is_due settings moment (record r { decided = Some moment })) _ _ p p) rs n q;
   }
 
-  part_one : (settings : Settings) (moment : ℕ) (st : State) → AllGrants P st.requests → AllGrants P (with_due_replied settings moment st).requests
+  part_one : (settings : Settings) (moment : ℕ) (tables : Tables) → AllGrants P tables.requests → AllGrants P (with_due_replied settings moment tables).requests
   unfolding with_due_replied Keeps
-  part_one settings moment st q = mapped (λ r. cond (is_due settings moment r) (record r { replied = Some moment }) r) (λ r p. either_keeps (is_due settings moment r) (record r { replied = Some moment }) r p p) st.requests q
+  part_one settings moment tables q = mapped (λ r. cond (is_due settings moment r) (record r { replied = Some moment }) r) (λ r p. either_keeps (is_due settings moment r) (record r { replied = Some moment }) r p p) tables.requests q
 
   of_slice : (rs : List Request) (n : ℕ) (r : Request) → AllGrants P rs → slice_get rs n ≡ Some r → OnGrant P r
   of_slice [] n r q e = absurd (none-some r e)
@@ -124,16 +124,16 @@ weaker P Q h (r ∷ rs) q = (on r.body q.0, weaker P Q h rs q.1)
 
 one_entry_later : (settings : Settings) (e : Entry) (g : List Entry) (conn id : ℕ) (random : Bytes) (grant : Grant) → WasGranted settings g conn id random grant → WasGranted settings (e ∷ g) conn id random grant
 one_entry_later settings e g conn id random grant w =
-    record { newer = e ∷ w.newer; entry = w.entry; older = w.older; stands = ap (λ x. e ∷ x) w.stands; text = w.text; is_line = w.is_line; pid = w.pid; client = w.client; cookie = w.cookie; spells = w.spells; is_granted = w.is_granted }
+    record { newer = e ∷ w.newer; entry = w.entry; older = w.older; is_there = ap (λ x. e ∷ x) w.is_there; text = w.text; is_line = w.is_line; pid = w.pid; client = w.client; cookie = w.cookie; spells = w.spells; is_granted = w.is_granted }
 
-all_granted : (settings : Settings) (h : List Entry) → AllGrants (WasGranted settings h) (state settings h).requests
+all_granted : (settings : Settings) (h : List Entry) → AllGrants (WasGranted settings h) (tables_of settings h).requests
 all_granted settings [] = tt
 all_granted settings (e ∷ g) =
-    let older : AllGrants (WasGranted settings (e ∷ g)) (state settings g).requests = weaker (WasGranted settings g) (WasGranted settings (e ∷ g)) (one_entry_later settings e g) (state settings g).requests (all_granted settings g) in
-    after_part_one settings e.moment (state settings g) e.input (AllGrants (WasGranted settings (e ∷ g)))
-    (parts (WasGranted settings (e ∷ g)) settings e.moment (state settings g) e.input
-    (λ conn id pid client random cookie text grant l m is. record { newer = []; entry = e; older = g; stands = refl; text = text; is_line = l; pid = pid; client = client; cookie = cookie; spells = m; is_granted = is }))
-    e.hits (part_one (WasGranted settings (e ∷ g)) settings e.moment (state settings g) older)
+    let older : AllGrants (WasGranted settings (e ∷ g)) (tables_of settings g).requests = weaker (WasGranted settings g) (WasGranted settings (e ∷ g)) (one_entry_later settings e g) (tables_of settings g).requests (all_granted settings g) in
+    after_part_one settings e.moment (tables_of settings g) e.input (AllGrants (WasGranted settings (e ∷ g)))
+    (parts (WasGranted settings (e ∷ g)) settings e.moment (tables_of settings g) e.input
+    (λ conn id pid client random cookie text grant l m is. record { newer = []; entry = e; older = g; is_there = refl; text = text; is_line = l; pid = pid; client = client; cookie = cookie; spells = m; is_granted = is }))
+    e.hits (part_one (WasGranted settings (e ∷ g)) settings e.moment (tables_of settings g) older)
 
 is_given : Decision → Bool
 is_given (UserGiven user fields) = true
@@ -158,5 +158,5 @@ user_was_granted settings h n r user fields here e =
       found.0,
       found.1,
       same_user found.0.lookup (user_chain settings.userdb found.0.lookup r.answers) user fields (subst (λ b. decision_in (body_stage settings r b) ≡ Some (UserGiven user fields)) found.1 e),
-      subst (OnBody (WasGranted settings h r.conn r.id r.random)) found.1 (of_nth (WasGranted settings h) (state settings h).requests n r (all_granted settings h) here),
+      subst (OnBody (WasGranted settings h r.conn r.id r.random)) found.1 (of_nth (WasGranted settings h) (tables_of settings h).requests n r (all_granted settings h) here),
     )

@@ -3,7 +3,7 @@ use Rattle.std.proofs.Common.{◌≡◌, ◌⊎◌, inl, inr, refl, sym, ◌∙�
 use Rattle.std.proofs.lemmas.Bool.{eqb-true}
 use Rattle.std.proofs.lemmas.Option.{none-some, same_Some}
 use Rattle.da_hist.proofs.Entries.{by_test, and_second, not_true}
-use Rattle.da_hist.proofs.EntryInduction.{MoverUndecided}
+use Rattle.da_hist.proofs.EntryInduction.{ContinuedUndecided}
 use Rattle.da_hist.proofs.EntryParts.{HeardParts, MovedParts, IsSound, sound_heard, moved_gives}
 use Rattle.da_hist.proofs.KeysLaw.{IsRecorded, told_is_recorded}
 use Rattle.da_hist.proofs.OpenQueries.{none_there}
@@ -14,37 +14,37 @@ use Rattle.da_hist.proofs.Standing.{heard_stands, moved_stands, due_stand, rest_
 use Rattle.da_base.specs.Words.{nth, changed_nth, passes_option, option_or_else}
 use Rattle.da_fields.specs.Answers.{Answers}
 use Rattle.da_fields.specs.declared.answer.Answer.{Answer}
-use Rattle.da_hist.specs.HeardLaws.{answer_under, told_query, use_by, own_use, own_tests, with_one_hit, hit_use, hit_tests, uses_heard, TestsAreHeard}
-use Rattle.da_hist.specs.History.{state, after, heard, with_due_replied, with_decision, taken}
-use Rattle.da_hist.specs.Hits.{hit_with, hit_test, used_again}
-use Rattle.da_hist.specs.Legal.{IsLegal, MoverHits}
-use Rattle.da_hist.specs.Queries.{answered_by, tested_by, use_test, with_test, is_running, first_waiting, recorded_answer, with_answer, with_new_query}
-use Rattle.da_hist.specs.ReadingLaws.{Tells}
+use Rattle.da_hist.specs.ListReadings.{answer_under, told_query, use_by, own_use, own_tests, with_one_hit, hit_use, hit_tests, uses_read, ComparisonsAreRead}
+use Rattle.da_hist.specs.History.{tables_of, after, after_input, with_due_replied, with_decision, as_taken}
+use Rattle.da_hist.specs.Hits.{hit_with, hit_comparison, used_again}
+use Rattle.da_hist.specs.Legal.{IsLegal, ContinuedHits}
+use Rattle.da_hist.specs.Queries.{answered_by, compared_by, use_comparison, with_comparison, is_running, first_waiting, recorded_answer, with_answer, with_new_query}
+use Rattle.da_hist.specs.RowReadings.{Tells}
 use Rattle.da_hist.specs.Requests.{is_undecided}
 use Rattle.da_hist.specs.StandingLaws.{TablesStand, QueryStands}
-use Rattle.da_hist.specs.Tables.{Heard, with_end}
+use Rattle.da_hist.specs.Tables.{AfterInput, with_end}
 use Rattle.da_hist.specs.declared.input.Entry.{Entry}
 use Rattle.da_hist.specs.declared.input.Input.{Input}
 use Rattle.da_hist.specs.declared.input.Input.TheVariants.{Opened, Line, Broken, Gone, Take, Answered, Late, Tick}
 use Rattle.da_hist.specs.declared.settings.Settings.{Settings}
-use Rattle.da_hist.specs.declared.state.Asked.{Asked}
+use Rattle.da_hist.specs.declared.state.QueryRow.{QueryRow}
 use Rattle.da_hist.specs.declared.state.Question.{Question}
 use Rattle.da_hist.specs.declared.state.Request.{Request}
-use Rattle.da_hist.specs.declared.state.State.{State}
+use Rattle.da_hist.specs.declared.state.Tables.{Tables}
 
 -- ---- the tests of a row
 
-abbrev tests_of : Asked → List Bool
-tests_of a = a.tests
+abbrev tests_of : QueryRow → List Bool
+tests_of a = a.comparisons
 
-abbrev tests_at : List Asked → ℕ → List Bool
+abbrev tests_at : List QueryRow → ℕ → List Bool
 tests_at qs k = listed_at tests_of qs k
 
 abbrev if_at : ℕ → ℕ → List Bool → List Bool
 if_at m k xs = cond (m == k) xs []
 
 -- one query has more tests
-tested_more : (f : Asked → Asked) (more : List Bool) (qs : List Asked) (m : ℕ) (a : Asked) → nth qs m ≡ Some a → (f a).tests ≡ more ++ a.tests → (k : ℕ) → tests_at (changed_nth f qs m) k ≡ if_at m k more ++ tests_at qs k
+tested_more : (f : QueryRow → QueryRow) (more : List Bool) (qs : List QueryRow) (m : ℕ) (a : QueryRow) → nth qs m ≡ Some a → (f a).comparisons ≡ more ++ a.comparisons → (k : ℕ) → tests_at (changed_nth f qs m) k ≡ if_at m k more ++ tests_at qs k
 tested_more f more qs m a is h k = go (same_or_not k m)
   where
     go : (k ≡ m) ⊎ (k ≡ m → ⊥) → tests_at (changed_nth f qs m) k ≡ if_at m k more ++ tests_at qs k
@@ -52,13 +52,13 @@ tested_more f more qs m a is h k = go (same_or_not k m)
         ∙ sym (ap₂ (λ (xs ys : List Bool). xs ++ ys) (ap (λ (b : Bool). cond b more []) (eq-eqb m k (sym d))) (ap (tests_at qs) d ∙ ap (listed tests_of) is))
     go (inr d) = ap (listed tests_of) (nth-unchanged f qs m k d) ∙ sym (ap (λ (b : Bool). cond b more [] ++ tests_at qs k) (ne_eqb m k (λ x. d (sym x))))
 
-with_test_is : (test : Option Bool) (tests : List Bool) → with_test test tests ≡ option_to_list test ++ tests
-with_test_is None tests = refl
-with_test_is (Some matched) tests = refl
+with_test_is : (comparison : Option Bool) (comparisons : List Bool) → with_comparison comparison comparisons ≡ option_to_list comparison ++ comparisons
+with_test_is None comparisons = refl
+with_test_is (Some matched) comparisons = refl
 
-tested_is : (settings : Settings) (o : Option Request) (q : Question) (answer : Answer) (tests : List Bool) → tested_by settings o q answer tests ≡ option_to_list (use_by settings o q answer) ++ tests
-tested_is settings None q answer tests = refl
-tested_is settings (Some r) q answer tests = with_test_is (use_test settings r q answer) tests
+tested_is : (settings : Settings) (o : Option Request) (q : Question) (answer : Answer) (comparisons : List Bool) → compared_by settings o q answer comparisons ≡ option_to_list (use_by settings o q answer) ++ comparisons
+tested_is settings None q answer comparisons = refl
+tested_is settings (Some r) q answer comparisons = with_test_is (use_comparison settings r q answer) comparisons
 
 abbrev no_tests : Bool → List Bool
 no_tests b = cond b [] []
@@ -69,28 +69,28 @@ none false = refl
 
 -- ---- one entry
 
-module _ (settings : Settings) (e : Entry) (origin : State) where
-  abbrev before : State
+module _ (settings : Settings) (e : Entry) (origin : Tables) where
+  abbrev before : Tables
   before = with_due_replied settings e.moment origin
 
-  abbrev h : Heard
-  h = heard settings e.moment e.input before
+  abbrev h : AfterInput
+  h = after_input settings e.moment e.input before
 
   -- what the own use found of the answer that the input tells
-  abbrev fresh : State → ℕ → List Bool
-  fresh st k = option_or_else (told_query e.input) [] (own_tests settings before.requests before.queries st.queries k)
+  abbrev fresh : Tables → ℕ → List Bool
+  fresh tables k = option_or_else (told_query e.input) [] (own_tests settings before.requests before.queries tables.queries k)
 
-  unanswered : (a : Asked) → is_running a ≡ true → a.answer ≡ None
+  unanswered : (a : QueryRow) → is_running a ≡ true → a.answer ≡ None
   unanswered a run = none_there a.answer (not_true (is_some a.answer) (and_second (is_some a.taken) _ run))
 
   none_own : (k j : ℕ) → own_tests settings before.requests before.queries before.queries k j ≡ []
   none_own k j = go (nth before.queries j)
     where
-      by_run : (a : Asked) (b : Bool) → is_running a ≡ b → cond (b && (j == k)) (own_use settings before.requests (Some a)) [] ≡ []
+      by_run : (a : QueryRow) (b : Bool) → is_running a ≡ b → cond (b && (j == k)) (own_use settings before.requests (Some a)) [] ≡ []
       by_run a false x = refl
       by_run a true x = ap (λ (o : Option (Answer × ℕ)). cond (j == k) (option_or_else o [] (λ p. option_to_list (use_by settings (nth before.requests a.request) a.question p.0))) []) (unanswered a x) ∙ none (j == k)
 
-      go : (o : Option Asked) → cond (passes_option is_running o && (j == k)) (own_use settings before.requests o) [] ≡ []
+      go : (o : Option QueryRow) → cond (passes_option is_running o && (j == k)) (own_use settings before.requests o) [] ≡ []
       go None = refl
       go (Some a) = by_run a (is_running a) refl
 
@@ -101,8 +101,8 @@ module _ (settings : Settings) (e : Entry) (origin : State) where
       go None = refl
       go (Some j) = none_own k j
 
-  abbrev Tested : State → Type 0
-  Tested st = (k : ℕ) → tests_at st.queries k ≡ fresh st k ++ tests_at before.queries k
+  abbrev Tested : Tables → Type 0
+  Tested tables = (k : ℕ) → tests_at tables.queries k ≡ fresh tables k ++ tests_at before.queries k
 
   untouched : Tested before
   untouched k = sym (ap (λ (xs : List Bool). xs ++ tests_at before.queries k) (none_fresh k))
@@ -111,23 +111,23 @@ module _ (settings : Settings) (e : Entry) (origin : State) where
   unfolding with_end
   end_tested conn = untouched
 
-  take_tested : e.input ≡ Take → Tested (record before { queries = changed_nth (taken e.moment) before.queries (first_waiting before) })
-  take_tested l k = changed_listed tests_of (taken e.moment) (λ a. refl) before.queries (first_waiting before) k
-      ∙ sym (ap (λ (o : Option ℕ). option_or_else o [] (own_tests settings before.requests before.queries (changed_nth (taken e.moment) before.queries (first_waiting before)) k) ++ tests_at before.queries k) (ap told_query l))
+  take_tested : e.input ≡ Take → Tested (record before { queries = changed_nth (as_taken e.moment) before.queries (first_waiting before) })
+  take_tested l k = changed_listed tests_of (as_taken e.moment) (λ a. refl) before.queries (first_waiting before) k
+      ∙ sym (ap (λ (o : Option ℕ). option_or_else o [] (own_tests settings before.requests before.queries (changed_nth (as_taken e.moment) before.queries (first_waiting before)) k) ++ tests_at before.queries k) (ap told_query l))
 
   -- an answer is told
-  tell_tested : (query : ℕ) (given : Answer) (a : Asked) → Tells e.input query given → nth before.queries query ≡ Some a → is_running a ≡ true → (k : ℕ) →
+  tell_tested : (query : ℕ) (given : Answer) (a : QueryRow) → Tells e.input query given → nth before.queries query ≡ Some a → is_running a ≡ true → (k : ℕ) →
       tests_at (changed_nth (answered_by settings e.moment (nth before.requests a.request) (recorded_answer a.question.kind given)) before.queries query) k
       ≡ option_or_else (told_query e.input) [] (own_tests settings before.requests before.queries (changed_nth (answered_by settings e.moment (nth before.requests a.request) (recorded_answer a.question.kind given)) before.queries query) k)
       ++ tests_at before.queries k
   tell_tested query given a t is run k =
-      tested_more (answered_by settings e.moment (nth before.requests a.request) (recorded_answer a.question.kind given)) (option_to_list (use_by settings (nth before.requests a.request) a.question (recorded_answer a.question.kind given))) before.queries query a is (tested_is settings (nth before.requests a.request) a.question (recorded_answer a.question.kind given) a.tests) k
+      tested_more (answered_by settings e.moment (nth before.requests a.request) (recorded_answer a.question.kind given)) (option_to_list (use_by settings (nth before.requests a.request) a.question (recorded_answer a.question.kind given))) before.queries query a is (tested_is settings (nth before.requests a.request) a.question (recorded_answer a.question.kind given) a.comparisons) k
       ∙ sym (ap (λ (xs : List Bool). xs ++ tests_at before.queries k)
       (ap (λ (o : Option ℕ). option_or_else o [] (own_tests settings before.requests before.queries (changed_nth (answered_by settings e.moment (nth before.requests a.request) (recorded_answer a.question.kind given)) before.queries query) k)) (told_given e.input query given t)
       ∙ ap (λ (b : Bool). cond (b && (query == k)) (own_use settings before.requests (nth (changed_nth (answered_by settings e.moment (nth before.requests a.request) (recorded_answer a.question.kind given)) before.queries query) query)) []) (ap (passes_option is_running) is ∙ run)
-      ∙ ap (λ (o : Option Asked). cond (query == k) (own_use settings before.requests o) []) (nth-changed (answered_by settings e.moment (nth before.requests a.request) (recorded_answer a.question.kind given)) before.queries query ∙ ap (option_map (answered_by settings e.moment (nth before.requests a.request) (recorded_answer a.question.kind given))) is)))
+      ∙ ap (λ (o : Option QueryRow). cond (query == k) (own_use settings before.requests o) []) (nth-changed (answered_by settings e.moment (nth before.requests a.request) (recorded_answer a.question.kind given)) before.queries query ∙ ap (option_map (answered_by settings e.moment (nth before.requests a.request) (recorded_answer a.question.kind given))) is)))
 
-  heard_tested : HeardParts settings e.moment before e.input (λ st m. Tested st)
+  heard_tested : HeardParts settings e.moment before e.input (λ tables m. Tested tables)
   heard_tested = record {
     opens = λ kind random l p. p;
     tells = λ conn change x p. p;
@@ -142,7 +142,7 @@ module _ (settings : Settings) (e : Entry) (origin : State) where
 
   -- ---- hits
 
-  module _ (stand : TablesStand origin h.state) (known : AllKnown origin e.hits) where
+  module _ (stand : TablesStand origin h.tables) (known : AllKnown origin e.hits) where
     -- the request with the answers of these hits
     abbrev with_done : Request → List ℕ → Request
     with_done r [] = r
@@ -159,107 +159,107 @@ module _ (settings : Settings) (e : Entry) (origin : State) where
         ∙ append_assoc (if_at n k (hit_use settings (with_done r (m ∷ ns)) (nth origin.queries n))) (hit_tests settings origin.queries (with_one_hit origin.queries r m) ns k) (if_at m k (hit_use settings r (nth origin.queries m)))
 
     -- the request that moves, with the answers of the hits that it has had
-    abbrev MoverIs : State → Option ℕ → List ℕ → Option Request → Type 0
-    MoverIs st None done o = Unit {0}
-    MoverIs st (Some n) done None = ⊥
-    MoverIs st (Some n) done (Some r) = nth st.requests n ≡ Some (with_done r done)
+    abbrev MoverIs : Tables → Option ℕ → List ℕ → Option Request → Type 0
+    MoverIs tables None done o = Unit {0}
+    MoverIs tables (Some n) done None = ⊥
+    MoverIs tables (Some n) done (Some r) = nth tables.requests n ≡ Some (with_done r done)
 
     abbrev row : Option ℕ → Option Request
-    row m = option_and_then (nth h.state.requests) m
+    row m = option_and_then (nth h.tables.requests) m
 
     abbrev tests_by : Option Request → List ℕ → ℕ → List Bool
     tests_by o done k = option_or_else o [] (λ r. hit_tests settings origin.queries r done k)
 
-    record HitsNow (st : State) (m : Option ℕ) (done : List ℕ) : Type 0 where
-      pub tables : TablesStand origin st
-      pub mover : MoverIs st m done (row m)
-      pub tests : (k : ℕ) → tests_at st.queries k ≡ tests_by (row m) done k ++ tests_at h.state.queries k
+    record HitsNow (tables : Tables) (m : Option ℕ) (done : List ℕ) : Type 0 where
+      pub tables : TablesStand origin tables
+      pub continued : MoverIs tables m done (row m)
+      pub comparisons : (k : ℕ) → tests_at tables.queries k ≡ tests_by (row m) done k ++ tests_at h.tables.queries k
 
-    abbrev hits_after : State → Option ℕ → Type 0
-    hits_after st m = (k : ℕ) → tests_at st.queries k ≡ tests_by (row m) e.hits k ++ tests_at h.state.queries k
+    abbrev hits_after : Tables → Option ℕ → Type 0
+    hits_after tables m = (k : ℕ) → tests_at tables.queries k ≡ tests_by (row m) e.hits k ++ tests_at h.tables.queries k
 
-    moved_stand : MovedParts settings e.moment before e.input e.hits (λ st m done. TablesStand origin st) (λ st m. TablesStand origin st)
+    moved_stand : MovedParts settings e.moment before e.input e.hits (λ tables m done. TablesStand origin tables) (λ tables m. TablesStand origin tables)
     moved_stand = moved_stands settings e.moment origin before e.input e.hits
 
     -- a hit's row is the one that was known
-    record IsHit (st : State) (number : ℕ) (a : Asked) (p : Answer × ℕ) : Type 0 where
+    record IsHit (tables : Tables) (number : ℕ) (a : QueryRow) (p : Answer × ℕ) : Type 0 where
       pub under : answer_under origin.queries number ≡ (a.question.db, p.0) ∷ []
-      pub finds : (r : Request) → hit_use settings r (nth origin.queries number) ≡ option_to_list (hit_test settings p.0 (Some r))
+      pub finds : (r : Request) → hit_use settings r (nth origin.queries number) ≡ option_to_list (hit_comparison settings p.0 (Some r))
 
-    is_hit : (st : State) (number : ℕ) (a : Asked) (p : Answer × ℕ) → nth st.queries number ≡ Some a → a.answer ≡ Some p → TablesStand origin st → IsKnown origin number → IsHit st number a p
-    is_hit st number a p is x t k =
-        let s : IsSameHit origin number k a p = same_hit origin st number a p is x t k in
+    is_hit : (tables : Tables) (number : ℕ) (a : QueryRow) (p : Answer × ℕ) → nth tables.queries number ≡ Some a → a.answer ≡ Some p → TablesStand origin tables → IsKnown origin number → IsHit tables number a p
+    is_hit tables number a p is x t k =
+        let s : IsSameHit origin number k a p = same_hit origin tables number a p is x t k in
         record {
-          under = known_under origin.queries number k.row k.pair k.stands k.is_answered ∙ ap₂ (λ (q : Question) (y : Answer × ℕ). (q.db, y.0) ∷ []) s.question s.pair;
-          finds = λ r. ap (hit_use settings r) k.stands ∙ ap (λ (o : Option (Answer × ℕ)). option_or_else o [] (λ y. option_to_list (hit_test settings y.0 (Some r)))) (k.is_answered ∙ ap (λ (y : Answer × ℕ). Some y) s.pair);
+          under = known_under origin.queries number k.row k.pair k.is_there k.is_answered ∙ ap₂ (λ (q : Question) (y : Answer × ℕ). (q.db, y.0) ∷ []) s.question s.pair;
+          finds = λ r. ap (hit_use settings r) k.is_there ∙ ap (λ (o : Option (Answer × ℕ)). option_or_else o [] (λ y. option_to_list (hit_comparison settings y.0 (Some r)))) (k.is_answered ∙ ap (λ (y : Answer × ℕ). Some y) s.pair);
         }
 
-    hit_now : (st : State) (mover number : ℕ) (done rest : List ℕ) (a : Asked) (p : Answer × ℕ) → nth st.queries number ≡ Some a → a.answer ≡ Some p → done ++ number ∷ rest ≡ e.hits →
-        TablesStand origin (hit_with settings mover number a p.0 st) → (o : Option Request) → row (Some mover) ≡ o → HitsNow st (Some mover) done → HitsNow (hit_with settings mover number a p.0 st) (Some mover) (done ++ number ∷ [])
-    hit_now st mover number done rest a p is x w t None d q = absurd (subst (λ (o : Option Request). MoverIs st (Some mover) done o) d q.mover)
-    hit_now st mover number done rest a p is x w t (Some r) d q = record {
+    hit_now : (tables : Tables) (continued number : ℕ) (done rest : List ℕ) (a : QueryRow) (p : Answer × ℕ) → nth tables.queries number ≡ Some a → a.answer ≡ Some p → done ++ number ∷ rest ≡ e.hits →
+        TablesStand origin (hit_with settings continued number a p.0 tables) → (o : Option Request) → row (Some continued) ≡ o → HitsNow tables (Some continued) done → HitsNow (hit_with settings continued number a p.0 tables) (Some continued) (done ++ number ∷ [])
+    hit_now tables continued number done rest a p is x w t None d q = absurd (subst (λ (o : Option Request). MoverIs tables (Some continued) done o) d q.continued)
+    hit_now tables continued number done rest a p is x w t (Some r) d q = record {
       tables = t;
-      mover = subst (λ (o : Option Request). MoverIs (hit_with settings mover number a p.0 st) (Some mover) (done ++ number ∷ []) o) (sym d)
-          (nth-changed (with_answer a.question.db p.0) st.requests mover ∙ ap (option_map (with_answer a.question.db p.0)) now
+      continued = subst (λ (o : Option Request). MoverIs (hit_with settings continued number a p.0 tables) (Some continued) (done ++ number ∷ []) o) (sym d)
+          (nth-changed (with_answer a.question.db p.0) tables.requests continued ∙ ap (option_map (with_answer a.question.db p.0)) now
           ∙ ap (λ (xs : Answers). Some (record (with_done r done) { answers = (with_done r done).answers ++ xs })) (sym hit.under) ∙ ap (λ (s : Request). Some s) (sym (done_more r done number)));
-      tests = λ k. tested_more (used_again (hit_test settings p.0 (nth st.requests mover))) (option_to_list (hit_test settings p.0 (nth st.requests mover))) st.queries number a is (with_test_is (hit_test settings p.0 (nth st.requests mover)) a.tests) k
+      comparisons = λ k. tested_more (used_again (hit_comparison settings p.0 (nth tables.requests continued))) (option_to_list (hit_comparison settings p.0 (nth tables.requests continued))) tables.queries number a is (with_test_is (hit_comparison settings p.0 (nth tables.requests continued)) a.comparisons) k
           ∙ ap₂ (λ (xs ys : List Bool). xs ++ ys)
-          (ap (if_at number k) (ap (λ (o : Option Request). option_to_list (hit_test settings p.0 o)) now ∙ sym (hit.finds (with_done r done))))
-          (q.tests k ∙ ap (λ (o : Option Request). tests_by o done k ++ tests_at h.state.queries k) d)
-          ∙ sym (append_assoc (if_at number k (hit_use settings (with_done r done) (nth origin.queries number))) (hit_tests settings origin.queries r done k) (tests_at h.state.queries k))
-          ∙ ap (λ (xs : List Bool). xs ++ tests_at h.state.queries k) (sym (tests_more r done number k))
-          ∙ ap (λ (o : Option Request). tests_by o (done ++ number ∷ []) k ++ tests_at h.state.queries k) (sym d);
+          (ap (if_at number k) (ap (λ (o : Option Request). option_to_list (hit_comparison settings p.0 o)) now ∙ sym (hit.finds (with_done r done))))
+          (q.comparisons k ∙ ap (λ (o : Option Request). tests_by o done k ++ tests_at h.tables.queries k) d)
+          ∙ sym (append_assoc (if_at number k (hit_use settings (with_done r done) (nth origin.queries number))) (hit_tests settings origin.queries r done k) (tests_at h.tables.queries k))
+          ∙ ap (λ (xs : List Bool). xs ++ tests_at h.tables.queries k) (sym (tests_more r done number k))
+          ∙ ap (λ (o : Option Request). tests_by o (done ++ number ∷ []) k ++ tests_at h.tables.queries k) (sym d);
     }
       where
-        now : nth st.requests mover ≡ Some (with_done r done)
-        now = subst (λ (o : Option Request). MoverIs st (Some mover) done o) d q.mover
+        now : nth tables.requests continued ≡ Some (with_done r done)
+        now = subst (λ (o : Option Request). MoverIs tables (Some continued) done o) d q.continued
 
-        hit : IsHit st number a p
-        hit = is_hit st number a p is x q.tables (one_known origin done rest number (subst (AllKnown origin) (sym w) known))
+        hit : IsHit tables number a p
+        hit = is_hit tables number a p is x q.tables (one_known origin done rest number (subst (AllKnown origin) (sym w) known))
 
     moved_hits : MovedParts settings e.moment before e.input e.hits HitsNow hits_after
     moved_hits = record {
-      hit = λ st mover number done rest a p is x w u q. hit_now st mover number done rest a p is x w (moved_stand.hit st mover number done rest a p is x w u q.tables) (row (Some mover)) refl q;
-      misses = λ st mover number done rest x w q. absurd (known_stays origin st number q.tables (one_known origin done rest number (subst (AllKnown origin) (sym w) known)) x);
-      rests = λ st q. q.tests;
-      awaits = λ st n r text is u x q. q.tests;
-      asks = λ st n r question is u x q k. new_listed tests_of st.queries _ k refl ∙ q.tests k;
-      decides = λ st n r d is u x q. q.tests;
-      kept = λ st m query given a l run is k q. q;
+      hit = λ tables continued number done rest a p is x w u q. hit_now tables continued number done rest a p is x w (moved_stand.hit tables continued number done rest a p is x w u q.tables) (row (Some continued)) refl q;
+      misses = λ tables continued number done rest x w q. absurd (known_stays origin tables number q.tables (one_known origin done rest number (subst (AllKnown origin) (sym w) known)) x);
+      rests = λ tables q. q.comparisons;
+      awaits = λ tables n r text is u x q. q.comparisons;
+      asks = λ tables n r question is u x q k. new_listed tests_of tables.queries _ k refl ∙ q.comparisons k;
+      decides = λ tables n r d is u x q. q.comparisons;
+      kept = λ tables m query given a l run is k q. q;
     }
 
     -- what was told stands after the entry
-    same_use : (j : ℕ) (given : Answer) → Tells e.input j given → (a : Asked) → nth before.queries j ≡ Some a → is_running a ≡ true →
-        own_use settings before.requests (nth h.state.queries j) ≡ own_use settings before.requests (nth (after settings origin e).queries j)
+    same_use : (j : ℕ) (given : Answer) → Tells e.input j given → (a : QueryRow) → nth before.queries j ≡ Some a → is_running a ≡ true →
+        own_use settings before.requests (nth h.tables.queries j) ≡ own_use settings before.requests (nth (after settings origin e).queries j)
     same_use j given t a is run = go (told_is_recorded settings e.moment j given before a is run e.input t)
       where
-        go : IsRecorded h.state.queries j a (recorded_answer a.question.kind given) e.moment → own_use settings before.requests (nth h.state.queries j) ≡ own_use settings before.requests (nth (after settings origin e).queries j)
-        go i = later ((rest_stands settings origin e).queries j i.row i.stands)
+        go : IsRecorded h.tables.queries j a (recorded_answer a.question.kind given) e.moment → own_use settings before.requests (nth h.tables.queries j) ≡ own_use settings before.requests (nth (after settings origin e).queries j)
+        go i = later ((rest_stands settings origin e).queries j i.row i.is_there)
           where
-            later : (c : Asked) × (nth (after settings origin e).queries j ≡ Some c) × QueryStands i.row c → own_use settings before.requests (nth h.state.queries j) ≡ own_use settings before.requests (nth (after settings origin e).queries j)
+            later : (c : QueryRow) × (nth (after settings origin e).queries j ≡ Some c) × QueryStands i.row c → own_use settings before.requests (nth h.tables.queries j) ≡ own_use settings before.requests (nth (after settings origin e).queries j)
             later (c, at, s) =
-                ap (own_use settings before.requests) i.stands
-                ∙ ap (λ (o : Option (Answer × ℕ)). option_or_else o [] (λ p. option_to_list (use_by settings (nth before.requests i.row.request) i.row.question p.0))) (i.is_recorded ∙ sym (s.answer (recorded_answer a.question.kind given, e.moment) i.is_recorded))
+                ap (own_use settings before.requests) i.is_there
+                ∙ ap (λ (o : Option (Answer × ℕ)). option_or_else o [] (λ p. option_to_list (use_by settings (nth before.requests i.row.request) i.row.question p.0))) (i.is_answer_recorded ∙ sym (s.answer (recorded_answer a.question.kind given, e.moment) i.is_answer_recorded))
                 ∙ ap₂ (λ (x : ℕ) (q : Question). option_or_else c.answer [] (λ p. option_to_list (use_by settings (nth before.requests x) q p.0))) (sym s.request) (sym s.question)
                 ∙ sym (ap (own_use settings before.requests) at)
 
-    same_own : (k j : ℕ) → told_query e.input ≡ Some j → own_tests settings before.requests before.queries h.state.queries k j ≡ own_tests settings before.requests before.queries (after settings origin e).queries k j
-    same_own k j told = go (nth before.queries j) refl
+    same_own : (k j : ℕ) → told_query e.input ≡ Some j → own_tests settings before.requests before.queries h.tables.queries k j ≡ own_tests settings before.requests before.queries (after settings origin e).queries k j
+    same_own k j reported = go (nth before.queries j) refl
       where
-        by_run : (a : Asked) → nth before.queries j ≡ Some a → (b : Bool) → is_running a ≡ b →
-            cond (b && (j == k)) (own_use settings before.requests (nth h.state.queries j)) [] ≡ cond (b && (j == k)) (own_use settings before.requests (nth (after settings origin e).queries j)) []
+        by_run : (a : QueryRow) → nth before.queries j ≡ Some a → (b : Bool) → is_running a ≡ b →
+            cond (b && (j == k)) (own_use settings before.requests (nth h.tables.queries j)) [] ≡ cond (b && (j == k)) (own_use settings before.requests (nth (after settings origin e).queries j)) []
         by_run a is false x = refl
-        by_run a is true x = let t : (given : Answer) × Tells e.input j given = given_of e.input j told in ap (λ (xs : List Bool). cond (j == k) xs []) (same_use j t.0 t.1 a is x)
+        by_run a is true x = let t : (given : Answer) × Tells e.input j given = given_of e.input j reported in ap (λ (xs : List Bool). cond (j == k) xs []) (same_use j t.0 t.1 a is x)
 
-        go : (o : Option Asked) → nth before.queries j ≡ o →
-            cond (passes_option is_running o && (j == k)) (own_use settings before.requests (nth h.state.queries j)) [] ≡ cond (passes_option is_running o && (j == k)) (own_use settings before.requests (nth (after settings origin e).queries j)) []
+        go : (o : Option QueryRow) → nth before.queries j ≡ o →
+            cond (passes_option is_running o && (j == k)) (own_use settings before.requests (nth h.tables.queries j)) [] ≡ cond (passes_option is_running o && (j == k)) (own_use settings before.requests (nth (after settings origin e).queries j)) []
         go None x = refl
         go (Some a) x = by_run a x (is_running a) refl
 
-    fresh_after : (k : ℕ) → fresh h.state k ≡ fresh (after settings origin e) k
+    fresh_after : (k : ℕ) → fresh h.tables k ≡ fresh (after settings origin e) k
     fresh_after k = go (told_query e.input) refl
       where
-        go : (o : Option ℕ) → told_query e.input ≡ o → option_or_else o [] (own_tests settings before.requests before.queries h.state.queries k) ≡ option_or_else o [] (own_tests settings before.requests before.queries (after settings origin e).queries k)
+        go : (o : Option ℕ) → told_query e.input ≡ o → option_or_else o [] (own_tests settings before.requests before.queries h.tables.queries k) ≡ option_or_else o [] (own_tests settings before.requests before.queries (after settings origin e).queries k)
         go None x = refl
         go (Some j) x = same_own k j x
 
@@ -267,43 +267,43 @@ module _ (settings : Settings) (e : Entry) (origin : State) where
     no_hits None k = refl
     no_hits (Some r) k = refl
 
-    mover_is : (m : Option ℕ) → MoverUndecided h.state.requests m → MoverIs h.state m [] (row m)
+    mover_is : (m : Option ℕ) → ContinuedUndecided h.tables.requests m → MoverIs h.tables m [] (row m)
     mover_is None u = tt
-    mover_is (Some n) u = go (passing is_undecided (nth h.state.requests n) u)
+    mover_is (Some n) u = go (passing is_undecided (nth h.tables.requests n) u)
       where
-        go : (r : Request) × (nth h.state.requests n ≡ Some r) × (is_undecided r ≡ true) → MoverIs h.state (Some n) [] (nth h.state.requests n)
-        go (r, is, w) = subst (λ (o : Option Request). MoverIs h.state (Some n) [] o) (sym is) is
+        go : (r : Request) × (nth h.tables.requests n ≡ Some r) × (is_undecided r ≡ true) → MoverIs h.tables (Some n) [] (nth h.tables.requests n)
+        go (r, is, w) = subst (λ (o : Option Request). MoverIs h.tables (Some n) [] o) (sym is) is
 
-    entry_tests : (k : ℕ) → tests_at (after settings origin e).queries k ≡ tests_by (row h.mover) e.hits k ++ (fresh (after settings origin e) k ++ tests_at before.queries k)
+    entry_tests : (k : ℕ) → tests_at (after settings origin e).queries k ≡ tests_by (row h.continued) e.hits k ++ (fresh (after settings origin e) k ++ tests_at before.queries k)
     unfolding after
     entry_tests k =
-        let s : IsSound settings e.moment before e.input (λ st m. Tested st) heard_tested h = sound_heard settings e.moment before e.input (λ st m. Tested st) heard_tested e.input refl untouched in
+        let s : IsSound settings e.moment before e.input (λ tables m. Tested tables) heard_tested h = sound_heard settings e.moment before e.input (λ tables m. Tested tables) heard_tested e.input refl untouched in
         moved_gives settings e.moment before e.input e.hits HitsNow hits_after moved_hits h
-        (record { tables = stand; mover = mover_is h.mover s.mover; tests = λ j. sym (ap (λ (xs : List Bool). xs ++ tests_at h.state.queries j) (no_hits (row h.mover) j)) }) s.mover k
-        ∙ ap (λ (xs : List Bool). tests_by (row h.mover) e.hits k ++ xs) (s.fact k ∙ ap (λ (xs : List Bool). xs ++ tests_at before.queries k) (fresh_after k))
+        (record { tables = stand; continued = mover_is h.continued s.continued; comparisons = λ j. sym (ap (λ (xs : List Bool). xs ++ tests_at h.tables.queries j) (no_hits (row h.continued) j)) }) s.continued k
+        ∙ ap (λ (xs : List Bool). tests_by (row h.continued) e.hits k ++ xs) (s.fact k ∙ ap (λ (xs : List Bool). xs ++ tests_at before.queries k) (fresh_after k))
 
 -- ---- a legal history
 
-one_entry : (settings : Settings) (e : Entry) (st : State) →
-    MoverHits settings e.moment st (option_and_then (nth (heard settings e.moment e.input (with_due_replied settings e.moment st)).state.requests) (heard settings e.moment e.input (with_due_replied settings e.moment st)).mover) e.hits →
-    (k : ℕ) → tests_at (after settings st e).queries k
-    ≡ option_or_else (option_and_then (nth (heard settings e.moment e.input (with_due_replied settings e.moment st)).state.requests) (heard settings e.moment e.input (with_due_replied settings e.moment st)).mover) [] (λ r. hit_tests settings st.queries r e.hits k)
-    ++ (option_or_else (told_query e.input) [] (own_tests settings (with_due_replied settings e.moment st).requests st.queries (after settings st e).queries k) ++ tests_at st.queries k)
+one_entry : (settings : Settings) (e : Entry) (tables : Tables) →
+    ContinuedHits settings e.moment tables (option_and_then (nth (after_input settings e.moment e.input (with_due_replied settings e.moment tables)).tables.requests) (after_input settings e.moment e.input (with_due_replied settings e.moment tables)).continued) e.hits →
+    (k : ℕ) → tests_at (after settings tables e).queries k
+    ≡ option_or_else (option_and_then (nth (after_input settings e.moment e.input (with_due_replied settings e.moment tables)).tables.requests) (after_input settings e.moment e.input (with_due_replied settings e.moment tables)).continued) [] (λ r. hit_tests settings tables.queries r e.hits k)
+    ++ (option_or_else (told_query e.input) [] (own_tests settings (with_due_replied settings e.moment tables).requests tables.queries (after settings tables e).queries k) ++ tests_at tables.queries k)
 unfolding with_due_replied
-one_entry settings e st hits k =
-    let before : State = with_due_replied settings e.moment st in
-    let h : Heard = heard settings e.moment e.input before in
+one_entry settings e tables hits k =
+    let before : Tables = with_due_replied settings e.moment tables in
+    let h : AfterInput = after_input settings e.moment e.input before in
     let s : IsSound settings e.moment before e.input (λ x m. TablesStand before x) _ h =
     sound_heard settings e.moment before e.input (λ x m. TablesStand before x) (heard_stands settings e.moment before before e.input e.hits) e.input refl (all_same before) in
-    entry_tests settings e st (tables_later st before h.state (due_stand settings e.moment st) s.fact) (mover_known settings e.moment st _ e.hits hits) k
+    entry_tests settings e tables (tables_later tables before h.tables (due_stand settings e.moment tables) s.fact) (mover_known settings e.moment tables _ e.hits hits) k
 
-all_tests : (settings : Settings) (h : List Entry) → IsLegal settings h → (k : ℕ) → tests_at (state settings h).queries k ≡ uses_heard settings h k
+all_tests : (settings : Settings) (h : List Entry) → IsLegal settings h → (k : ℕ) → tests_at (tables_of settings h).queries k ≡ uses_read settings h k
 all_tests settings [] legal zero = refl
 all_tests settings [] legal (suc k) = refl
 all_tests settings (e ∷ g) legal k =
-    one_entry settings e (state settings g) legal.1.hits k
-    ∙ ap (λ (xs : List Bool). option_or_else (option_and_then (nth (heard settings e.moment e.input (with_due_replied settings e.moment (state settings g))).state.requests) (heard settings e.moment e.input (with_due_replied settings e.moment (state settings g))).mover) [] (λ r. hit_tests settings (state settings g).queries r e.hits k)
-    ++ (option_or_else (told_query e.input) [] (own_tests settings (with_due_replied settings e.moment (state settings g)).requests (state settings g).queries (after settings (state settings g) e).queries k) ++ xs)) (all_tests settings g legal.0 k)
+    one_entry settings e (tables_of settings g) legal.1.hits k
+    ∙ ap (λ (xs : List Bool). option_or_else (option_and_then (nth (after_input settings e.moment e.input (with_due_replied settings e.moment (tables_of settings g))).tables.requests) (after_input settings e.moment e.input (with_due_replied settings e.moment (tables_of settings g))).continued) [] (λ r. hit_tests settings (tables_of settings g).queries r e.hits k)
+    ++ (option_or_else (told_query e.input) [] (own_tests settings (with_due_replied settings e.moment (tables_of settings g)).requests (tables_of settings g).queries (after settings (tables_of settings g) e).queries k) ++ xs)) (all_tests settings g legal.0 k)
 
-pub tests_are_heard : TestsAreHeard
-tests_are_heard settings h legal k a is = sym (ap (listed tests_of) is) ∙ all_tests settings h legal k
+pub comparisons_are_read : ComparisonsAreRead
+comparisons_are_read settings h legal k a is = sym (ap (listed tests_of) is) ∙ all_tests settings h legal k

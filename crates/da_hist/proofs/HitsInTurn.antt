@@ -7,10 +7,10 @@ use Rattle.da_hist.specs.declared.hits.Hit.{Hit}
 use Rattle.da_hist.specs.declared.settings.Settings.{Settings}
 use Rattle.da_hist.specs.declared.state.Question.{Question}
 use Rattle.da_hist.specs.declared.state.Request.{Request}
-use Rattle.da_hist.specs.declared.state.State.{State}
+use Rattle.da_hist.specs.declared.state.Tables.{Tables}
 use Rattle.da_hist.specs.Requests.{request_stage, question_in}
 use Rattle.da_hist.specs.Hits.{hit_for, hits_from, with_hit}
-use Rattle.da_hist.specs.InPlace.{hit_with_number, next_hit}
+use Rattle.da_hist.specs.Bridges.{hit_with_number, next_hit}
 
 module _ (h : Hit) (rest : Question → ℕ → List ℕ) where
   number_first : (q : Question) (o : Option ℕ) → option_map (hit_with_number q) o ≡ Some h →
@@ -24,13 +24,13 @@ module _ (h : Hit) (rest : Question → ℕ → List ℕ) where
   hit_first f (Some q) e = number_first q (f q) e
 
 -- the first hit stands before those that come after it
-pub more_hits : (databases : ℕ) (settings : Settings) (moment : ℕ) (st : State) (r : Request) (h : Hit) → 0 < databases →
-    next_hit settings moment st r ≡ Some h →
-    hits_from databases settings moment st r ≡ h.number ∷ hits_from (databases - 1) settings moment st (with_hit st h.question h.number r)
-more_hits zero settings moment st r h some e = let bad : ⊥ = omega (arith, some) in absurd bad
-more_hits (suc n) settings moment st r h some e =
-    hit_first h (λ q number. hits_from n settings moment st (with_hit st q number r)) (hit_for settings moment st r) (question_in (request_stage settings r)) e
-    ∙ ap (λ (k : ℕ). h.number ∷ hits_from k settings moment st (with_hit st h.question h.number r)) one_less
+pub more_hits : (databases : ℕ) (settings : Settings) (moment : ℕ) (tables : Tables) (r : Request) (h : Hit) → 0 < databases →
+    next_hit settings moment tables r ≡ Some h →
+    hits_from databases settings moment tables r ≡ h.number ∷ hits_from (databases - 1) settings moment tables (with_hit tables h.question h.number r)
+more_hits zero settings moment tables r h some e = let bad : ⊥ = omega (arith, some) in absurd bad
+more_hits (suc n) settings moment tables r h some e =
+    hit_first h (λ q number. hits_from n settings moment tables (with_hit tables q number r)) (hit_for settings moment tables r) (question_in (request_stage settings r)) e
+    ∙ ap (λ (k : ℕ). h.number ∷ hits_from k settings moment tables (with_hit tables h.question h.number r)) one_less
   where
     one_less : n ≡ suc n - 1
     one_less = omega arith

@@ -16,21 +16,21 @@ use Rattle.da_fields.specs.declared.said.Said.{Said}
 use Rattle.da_fields.specs.declared.said.Said.TheVariants.{Challenge, Need, Proof as Proven, Bad}
 use Rattle.da_hist.specs.Attempts.{Attempt, mechanism_says, names, opening, opening_named, opening_said, opening_by, stage_from, failure, after_proof, with_credentials, after_verdict, after_chain, attempt_stage}
 use Rattle.da_hist.specs.declared.openings.Opening.{Opening}
-use Rattle.da_hist.specs.declared.openings.Opening.TheVariants.{Settled, LogsIn}
+use Rattle.da_hist.specs.declared.openings.Opening.TheVariants.{Immediate, LogsIn}
 use Rattle.da_hist.specs.HitLaws.{HitsAreHits}
 use Rattle.da_hist.specs.Hits.{AreHits, hits_from, hit_for, with_hit, answer_of, is_usable, is_usable_answer, newest}
 use Rattle.da_hist.specs.Queries.{with_answer, key_of}
 use Rattle.da_hist.specs.Requests.{lookup_stage, body_stage, request_stage, question_in}
 use Rattle.da_passdb.specs.declared.login.Login.{Login}
 use Rattle.da_hist.specs.declared.settings.Settings.{Settings}
-use Rattle.da_hist.specs.declared.state.Asked.{Asked}
+use Rattle.da_hist.specs.declared.state.QueryRow.{QueryRow}
 use Rattle.da_hist.specs.declared.state.Body.{Body}
 use Rattle.da_hist.specs.declared.state.Body.TheVariants.{Authenticates, LooksUp}
 use Rattle.da_hist.specs.declared.state.Question.{Question}
 use Rattle.da_hist.specs.declared.state.Request.{Request}
 use Rattle.da_hist.specs.declared.state.Stage.{Stage}
 use Rattle.da_hist.specs.declared.state.Stage.TheVariants.{Awaits, Asks, Decided}
-use Rattle.da_hist.specs.declared.state.State.{State}
+use Rattle.da_hist.specs.declared.state.Tables.{Tables}
 use Rattle.da_msgs.specs.Replies.{mechanism_named}
 use Rattle.da_msgs.specs.declared.kinds.Mech.{Mech}
 use Rattle.da_msgs.specs.declared.kinds.Mech.TheVariants.{Plain, Login as LoginMech, CramMd5, ScramSha256}
@@ -197,20 +197,20 @@ walk_asks jumps (db ∷ dbs) name login answers p d e =
     (λ q f. let rest : IsIn d (numbers dbs) × (answer_from d answers ≡ None) = walk_asks jumps dbs name login answers q d f in (inr rest.0, rest.1))
     e
 
-part_in : (test : Passdb → Bool) (dbs : List Passdb) (d : ℕ) → IsIn d (numbers (filter test dbs)) → IsIn d (numbers dbs)
-part_in test [] d i = i
-part_in test (db ∷ dbs) d i = go (test db) (part_in test dbs d) i
+part_in : (comparison : Passdb → Bool) (dbs : List Passdb) (d : ℕ) → IsIn d (numbers (filter comparison dbs)) → IsIn d (numbers dbs)
+part_in comparison [] d i = i
+part_in comparison (db ∷ dbs) d i = go (comparison db) (part_in comparison dbs d) i
   where
-    go : (b : Bool) → (IsIn d (numbers (filter test dbs)) → IsIn d (numbers dbs)) → IsIn d (numbers (cond b (db ∷ filter test dbs) (filter test dbs))) → (db.number ≡ d) ⊎ IsIn d (numbers dbs)
+    go : (b : Bool) → (IsIn d (numbers (filter comparison dbs)) → IsIn d (numbers dbs)) → IsIn d (numbers (cond b (db ∷ filter comparison dbs) (filter comparison dbs))) → (db.number ≡ d) ⊎ IsIn d (numbers dbs)
     go true rest (inl e) = inl e
     go true rest (inr j) = inr (rest j)
     go false rest j = inr (rest j)
 
-part_asks : (jumps : Bool) (test : Passdb → Bool) (dbs : List Passdb) (name : Bytes) (login : Login) (answers : Answers) (p : Progress) (d : ℕ) → asked_db (walk jumps (filter test dbs) name login answers p) ≡ Some d → HasOpen answers d (numbers dbs)
+part_asks : (jumps : Bool) (comparison : Passdb → Bool) (dbs : List Passdb) (name : Bytes) (login : Login) (answers : Answers) (p : Progress) (d : ℕ) → asked_db (walk jumps (filter comparison dbs) name login answers p) ≡ Some d → HasOpen answers d (numbers dbs)
 unfolding HasOpen
-part_asks jumps test dbs name login answers p d e =
-    let found : IsIn d (numbers (filter test dbs)) × (answer_from d answers ≡ None) = walk_asks jumps (filter test dbs) name login answers p d e in
-    (part_in test dbs d found.0, found.1)
+part_asks jumps comparison dbs name login answers p d e =
+    let found : IsIn d (numbers (filter comparison dbs)) × (answer_from d answers ≡ None) = walk_asks jumps (filter comparison dbs) name login answers p d e in
+    (part_in comparison dbs d found.0, found.1)
 
 asked_chain : Chain → Option ℕ
 asked_chain (Ask db kind user checked) = Some db
@@ -369,7 +369,7 @@ after_chain_asks m settings a (Done v) = verdict_quiet v.kind m settings a v
 
 -- before the databases nothing is asked
 NoAsk : Opening → Type 0
-NoAsk (Settled s) = asked_stage s ≡ None
+NoAsk (Immediate s) = asked_stage s ≡ None
 NoAsk (LogsIn m login) = Unit {0}
 
 named_no : (m : Mech) (a : Attempt) (password : Option Bytes) (n : Option (Bytes × Option Bytes)) → NoAsk (opening_named m a password n)
@@ -391,7 +391,7 @@ by_no (Some m) settings a = said_no m settings a (mechanism_says m settings a a.
 
 from_asks : (settings : Settings) (a : Attempt) (o : Opening) (d : ℕ) → NoAsk o → asked_stage (stage_from settings a o) ≡ Some d → HasOpen a.answers d (numbers settings.passdb)
 unfolding NoAsk
-from_asks settings a (Settled s) d n e = quiet_finds _ d _ n e
+from_asks settings a (Immediate s) d n e = quiet_finds _ d _ n e
 from_asks settings a (LogsIn m login) d n e = login_asks settings.passdb login a.answers d (sym (after_chain_asks m settings a (login_chain settings.passdb login a.answers)) ∙ e)
 
 attempt_asks : (settings : Settings) (a : Attempt) (d : ℕ) → asked_stage (attempt_stage settings a) ≡ Some d → HasOpen a.answers d (numbers settings.passdb)
@@ -418,73 +418,73 @@ request_asks settings r q e = body_asks settings r r.body q.db (asked_question (
 
 -- ---- a hit has an answer
 
-usable_answer : (settings : Settings) (moment : ℕ) (st : State) (r : Request) (q : Question) (n : ℕ) → is_usable settings moment st r q n ≡ true → (a : Answer) × (answer_of st n ≡ Some a)
+usable_answer : (settings : Settings) (moment : ℕ) (tables : Tables) (r : Request) (q : Question) (n : ℕ) → is_usable settings moment tables r q n ≡ true → (a : Answer) × (answer_of tables n ≡ Some a)
 unfolding is_usable
-usable_answer settings moment st r q n e = go (nth st.queries n) e
+usable_answer settings moment tables r q n e = go (nth tables.queries n) e
   where
-    inner : (a : Asked) (o : Option (Answer × ℕ)) → passes_option (is_usable_answer settings moment r q a) o ≡ true → (x : Answer) × (option_map (λ (p : Answer × ℕ). p.0) o ≡ Some x)
+    inner : (a : QueryRow) (o : Option (Answer × ℕ)) → passes_option (is_usable_answer settings moment r q a) o ≡ true → (x : Answer) × (option_map (λ (p : Answer × ℕ). p.0) o ≡ Some x)
     inner a None e = absurd (true≢false (sym e))
     inner a (Some p) e = (p.0, refl)
 
-    go : (o : Option Asked) → passes_option (λ (a : Asked). passes_option (is_usable_answer settings moment r q a) a.answer) o ≡ true → (x : Answer) × (option_and_then (λ (a : Asked). option_map (λ p. p.0) a.answer) o ≡ Some x)
+    go : (o : Option QueryRow) → passes_option (λ (a : QueryRow). passes_option (is_usable_answer settings moment r q a) a.answer) o ≡ true → (x : Answer) × (option_and_then (λ (a : QueryRow). option_map (λ p. p.0) a.answer) o ≡ Some x)
     go None e = absurd (true≢false (sym e))
     go (Some a) e = inner a a.answer e
 
-hit_usable : (settings : Settings) (moment : ℕ) (st : State) (r : Request) (q : Question) (n : ℕ) → hit_for settings moment st r q ≡ Some n → is_usable settings moment st r q n ≡ true
-hit_usable settings moment st r q n e = go (newest st (key_of q)) e
+hit_usable : (settings : Settings) (moment : ℕ) (tables : Tables) (r : Request) (q : Question) (n : ℕ) → hit_for settings moment tables r q ≡ Some n → is_usable settings moment tables r q n ≡ true
+hit_usable settings moment tables r q n e = go (newest tables (key_of q)) e
   where
     chosen : (b : Bool) (x : ℕ) → cond b (Some x) None ≡ Some n → (b ≡ true) × (x ≡ n)
     chosen true x e = (refl, same_Some x n e)
     chosen false x e = absurd (none-some n e)
 
-    go : (o : Option ℕ) → option_and_then (λ number. cond (has_key (key_of q) st.keys && is_usable settings moment st r q number) (Some number) None) o ≡ Some n → is_usable settings moment st r q n ≡ true
+    go : (o : Option ℕ) → option_and_then (λ number. cond (has_key (key_of q) tables.keys && is_usable settings moment tables r q number) (Some number) None) o ≡ Some n → is_usable settings moment tables r q n ≡ true
     go None e = absurd (none-some n e)
     go (Some x) e =
-        let both : ((has_key (key_of q) st.keys && is_usable settings moment st r q x) ≡ true) × (x ≡ n) = chosen _ x e in
-        subst (λ m. is_usable settings moment st r q m ≡ true) both.1 (and_second (has_key (key_of q) st.keys) _ both.0)
+        let both : ((has_key (key_of q) tables.keys && is_usable settings moment tables r q x) ≡ true) × (x ≡ n) = chosen _ x e in
+        subst (λ m. is_usable settings moment tables r q m ≡ true) both.1 (and_second (has_key (key_of q) tables.keys) _ both.0)
 
 -- ---- the hits that are made, by the function that makes them
 
 -- what the request asks now is answered by no hit
-abbrev HasNone : Settings → ℕ → State → Request → Type 0
-HasNone settings moment st r = (q : Question) → question_in (request_stage settings r) ≡ Some q → hit_for settings moment st r q ≡ None
+abbrev HasNone : Settings → ℕ → Tables → Request → Type 0
+HasNone settings moment tables r = (q : Question) → question_in (request_stage settings r) ≡ Some q → hit_for settings moment tables r q ≡ None
 
-abbrev AreMade : Settings → ℕ → State → Request → List ℕ → Type 0
-AreMade settings moment st r [] = HasNone settings moment st r
-AreMade settings moment st r (n ∷ ns) =
-    (q : Question) × (question_in (request_stage settings r) ≡ Some q) × (hit_for settings moment st r q ≡ Some n) × AreMade settings moment st (with_hit st q n r) ns
+abbrev AreMade : Settings → ℕ → Tables → Request → List ℕ → Type 0
+AreMade settings moment tables r [] = HasNone settings moment tables r
+AreMade settings moment tables r (n ∷ ns) =
+    (q : Question) × (question_in (request_stage settings r) ≡ Some q) × (hit_for settings moment tables r q ≡ Some n) × AreMade settings moment tables (with_hit tables q n r) ns
 
 -- ---- the hits come to an end
 
 abbrev open_of : Settings → Request → ℕ
 open_of settings r = open_count r.answers (body_numbers settings r.body)
 
-hit_leaves_fewer : (settings : Settings) (moment : ℕ) (st : State) (r : Request) (q : Question) (n : ℕ) → question_in (request_stage settings r) ≡ Some q → hit_for settings moment st r q ≡ Some n → open_of settings (with_hit st q n r) + 1 ≤ open_of settings r
+hit_leaves_fewer : (settings : Settings) (moment : ℕ) (tables : Tables) (r : Request) (q : Question) (n : ℕ) → question_in (request_stage settings r) ≡ Some q → hit_for settings moment tables r q ≡ Some n → open_of settings (with_hit tables q n r) + 1 ≤ open_of settings r
 unfolding with_one
-hit_leaves_fewer settings moment st r q n e h =
-    let found : (a : Answer) × (answer_of st n ≡ Some a) = usable_answer settings moment st r q n (hit_usable settings moment st r q n h) in
+hit_leaves_fewer settings moment tables r q n e h =
+    let found : (a : Answer) × (answer_of tables n ≡ Some a) = usable_answer settings moment tables r q n (hit_usable settings moment tables r q n h) in
     subst (λ (o : Option Answer). open_of settings (option_or_else o r (λ answer. with_answer q.db answer r)) + 1 ≤ open_of settings r) (sym found.1)
     (fewer r.answers q.db found.0 (body_numbers settings r.body) (request_asks settings r q e))
 
-hits_made : (databases : ℕ) (settings : Settings) (moment : ℕ) (st : State) (r : Request) → open_of settings r ≤ databases → AreMade settings moment st r (hits_from databases settings moment st r)
-hits_made zero settings moment st r few = λ q e.
+hits_made : (databases : ℕ) (settings : Settings) (moment : ℕ) (tables : Tables) (r : Request) → open_of settings r ≤ databases → AreMade settings moment tables r (hits_from databases settings moment tables r)
+hits_made zero settings moment tables r few = λ q e.
     let some_open : open_count (with_one r.answers q.db Mismatch) (body_numbers settings r.body) + 1 ≤ open_of settings r = fewer r.answers q.db Mismatch (body_numbers settings r.body) (request_asks settings r q e) in
     let bad : ⊥ = omega (arith, few, some_open) in absurd bad
-hits_made (suc databases) settings moment st r few =
+hits_made (suc databases) settings moment tables r few =
     asks (question_in (request_stage settings r)) refl (λ q n e h.
-    let less : open_of settings (with_hit st q n r) + 1 ≤ open_of settings r = hit_leaves_fewer settings moment st r q n e h in
-    hits_made databases settings moment st (with_hit st q n r) (omega (arith, less, few)))
+    let less : open_of settings (with_hit tables q n r) + 1 ≤ open_of settings r = hit_leaves_fewer settings moment tables r q n e h in
+    hits_made databases settings moment tables (with_hit tables q n r) (omega (arith, less, few)))
   where
-    hitting : (q : Question) → question_in (request_stage settings r) ≡ Some q → (o : Option ℕ) → hit_for settings moment st r q ≡ o → ((n : ℕ) → hit_for settings moment st r q ≡ Some n → AreMade settings moment st (with_hit st q n r) (hits_from databases settings moment st (with_hit st q n r))) →
-        AreMade settings moment st r (option_or_else o [] (λ n. n ∷ hits_from databases settings moment st (with_hit st q n r)))
-    hitting q e None h rest = λ p f. ap (hit_for settings moment st r) (same_Some p q (sym f ∙ e)) ∙ h
+    hitting : (q : Question) → question_in (request_stage settings r) ≡ Some q → (o : Option ℕ) → hit_for settings moment tables r q ≡ o → ((n : ℕ) → hit_for settings moment tables r q ≡ Some n → AreMade settings moment tables (with_hit tables q n r) (hits_from databases settings moment tables (with_hit tables q n r))) →
+        AreMade settings moment tables r (option_or_else o [] (λ n. n ∷ hits_from databases settings moment tables (with_hit tables q n r)))
+    hitting q e None h rest = λ p f. ap (hit_for settings moment tables r) (same_Some p q (sym f ∙ e)) ∙ h
     hitting q e (Some n) h rest = (q, e, h, rest n h)
 
     asks : (o : Option Question) → question_in (request_stage settings r) ≡ o →
-        ((q : Question) (n : ℕ) → question_in (request_stage settings r) ≡ Some q → hit_for settings moment st r q ≡ Some n → AreMade settings moment st (with_hit st q n r) (hits_from databases settings moment st (with_hit st q n r))) →
-        AreMade settings moment st r (option_or_else o [] (λ q. option_or_else (hit_for settings moment st r q) [] (λ n. n ∷ hits_from databases settings moment st (with_hit st q n r))))
+        ((q : Question) (n : ℕ) → question_in (request_stage settings r) ≡ Some q → hit_for settings moment tables r q ≡ Some n → AreMade settings moment tables (with_hit tables q n r) (hits_from databases settings moment tables (with_hit tables q n r))) →
+        AreMade settings moment tables r (option_or_else o [] (λ q. option_or_else (hit_for settings moment tables r q) [] (λ n. n ∷ hits_from databases settings moment tables (with_hit tables q n r))))
     asks None e rest = λ q f. absurd (none-some q (sym e ∙ f))
-    asks (Some q) e rest = hitting q e (hit_for settings moment st r q) refl (λ n h. rest q n e h)
+    asks (Some q) e rest = hitting q e (hit_for settings moment tables r q) refl (λ n h. rest q n e h)
 
 within : (answers : Answers) (ns : List ℕ) → open_count answers ns ≤ length ns
 within answers [] = omega arith
@@ -504,11 +504,11 @@ enough settings answers (LooksUp grant) =
     omega (arith, few, same)
 
 -- hits that are made are hits
-made_are_hits : (settings : Settings) (moment : ℕ) (st : State) (r : Request) (ns : List ℕ) → AreMade settings moment st r ns → AreHits settings moment st r ns
-made_are_hits settings moment st r [] m = λ q e n u. none-some n (sym (m q e) ∙ usable_is_hit settings moment st r q n u)
-made_are_hits settings moment st r (n ∷ ns) m = (m.0, m.1, hit_is_usable settings moment st r m.0 n m.2, made_are_hits settings moment st (with_hit st m.0 n r) ns m.3)
+made_are_hits : (settings : Settings) (moment : ℕ) (tables : Tables) (r : Request) (ns : List ℕ) → AreMade settings moment tables r ns → AreHits settings moment tables r ns
+made_are_hits settings moment tables r [] m = λ q e n u. none-some n (sym (m q e) ∙ usable_is_hit settings moment tables r q n u)
+made_are_hits settings moment tables r (n ∷ ns) m = (m.0, m.1, hit_is_usable settings moment tables r m.0 n m.2, made_are_hits settings moment tables (with_hit tables m.0 n r) ns m.3)
 
 pub hits_are_hits : HitsAreHits
-hits_are_hits settings moment st r =
-    made_are_hits settings moment st r (hits_from (database_count settings) settings moment st r)
-    (hits_made (database_count settings) settings moment st r (enough settings r.answers r.body))
+hits_are_hits settings moment tables r =
+    made_are_hits settings moment tables r (hits_from (database_count settings) settings moment tables r)
+    (hits_made (database_count settings) settings moment tables r (enough settings r.answers r.body))

@@ -5,7 +5,7 @@ use Rattle.std.proofs.lemmas.List.{reverse-append, map-append}
 use Rattle.da_hist.proofs.HitsLaw.{hits_are_unique}
 use Rattle.da_hist.proofs.Entries.{and_first, and_second}
 use Rattle.da_base.specs.Words.{nth, passes_option, option_or_else, later}
-use Rattle.da_hist.specs.History.{state}
+use Rattle.da_hist.specs.History.{tables_of}
 use Rattle.da_hist.specs.Legal.{IsLegal, IsNext, is_full, is_allowed, late_from, open_count, last_moment, entry_moment}
 use Rattle.da_hist.specs.Play.{Event, hits, unless, late_refusal, input_refusal, refusal, next_entry, history_after, played}
 use Rattle.da_hist.specs.PlayLaws.{PlaysAreLegal, LegalIsPlayed, event_of, events_of}
@@ -17,12 +17,12 @@ use Rattle.da_hist.specs.declared.input.Input.TheVariants.{Opened, Line, Broken,
 use Rattle.da_hist.specs.declared.outputs.Refused.{Refused}
 use Rattle.da_hist.specs.declared.outputs.Refused.TheVariants.{HistoryFull, ConnLimit, NoConn, NothingWaits, NotTaken, NotLate}
 use Rattle.da_hist.specs.declared.settings.Settings.{Settings}
-use Rattle.da_hist.specs.declared.state.Asked.{Asked}
-use Rattle.da_hist.specs.declared.state.State.{State}
-use Rattle.da_hist.specs.Legal.{MoverHits, EntryHits}
+use Rattle.da_hist.specs.declared.state.QueryRow.{QueryRow}
+use Rattle.da_hist.specs.declared.state.Tables.{Tables}
+use Rattle.da_hist.specs.Legal.{ContinuedHits, EntryHits}
 use Rattle.da_hist.specs.Hits.{hits_from, database_count}
-use Rattle.da_hist.specs.History.{heard, with_due_replied}
-use Rattle.da_hist.specs.Tables.{Heard}
+use Rattle.da_hist.specs.History.{after_input, with_due_replied}
+use Rattle.da_hist.specs.Tables.{AfterInput}
 use Rattle.da_hist.specs.declared.state.Request.{Request}
 use Rattle.da_hist.proofs.HitsMade.{hits_are_hits}
 
@@ -45,7 +45,7 @@ late_passes : (moment query : ℕ) (o : Option ℕ) → is_some o ≡ true → l
 late_passes moment query None s e = absurd (true≢false (sym s))
 late_passes moment query (Some due) s e = unless_none (nat_le due moment) (NotLate query due) e
 
-taken_has_limit : (settings : Settings) (o : Option Asked) → passes_option is_running o ≡ true → is_some (option_and_then (λ a. option_map (λ taken. later taken settings.query_limit) a.taken) o) ≡ true
+taken_has_limit : (settings : Settings) (o : Option QueryRow) → passes_option is_running o ≡ true → is_some (option_and_then (λ a. option_map (λ taken. later taken settings.query_limit) a.taken) o) ≡ true
 taken_has_limit settings None e = e
 taken_has_limit settings (Some a) e = go a.taken e
   where
@@ -56,34 +56,34 @@ taken_has_limit settings (Some a) e = go a.taken e
 both_true : (a b : Bool) → a ≡ true → b ≡ true → (a && b) ≡ true
 both_true a b p q = ap (λ x. x && b) p ∙ q
 
-allowed_input : (settings : Settings) (st : State) (moment : ℕ) (input : Input) → input_refusal settings st moment input ≡ None → is_allowed settings st moment input ≡ true
-allowed_input settings st moment (Opened kind random) e = unless_none (nat_lt (open_count st) settings.connections) (ConnLimit (open_count st)) e
-allowed_input settings st moment (Line conn text random) e = unless_none (is_open_in st conn) (NoConn conn) e
-allowed_input settings st moment (Broken conn) e = unless_none (is_open_in st conn) (NoConn conn) e
-allowed_input settings st moment (Gone conn) e = unless_none (is_open_in st conn) (NoConn conn) e
-allowed_input settings st moment Take e = unless_none (nat_lt 0 (first_waiting st)) NothingWaits e
-allowed_input settings st moment (Answered query answer) e = unless_none (is_running_in st query) (NotTaken query) e
-allowed_input settings st moment (Late query) e =
-    let both : (is_running_in st query ≡ true) × (late_refusal moment query (late_from settings st query) ≡ None) = else_none _ _ _ e in
-    both_true (is_running_in st query) _ both.0 (late_passes moment query (late_from settings st query) (taken_has_limit settings (nth st.queries query) both.0) both.1)
-allowed_input settings st moment Tick e = refl
+allowed_input : (settings : Settings) (tables : Tables) (moment : ℕ) (input : Input) → input_refusal settings tables moment input ≡ None → is_allowed settings tables moment input ≡ true
+allowed_input settings tables moment (Opened kind random) e = unless_none (nat_lt (open_count tables) settings.connections) (ConnLimit (open_count tables)) e
+allowed_input settings tables moment (Line conn text random) e = unless_none (is_open_in tables conn) (NoConn conn) e
+allowed_input settings tables moment (Broken conn) e = unless_none (is_open_in tables conn) (NoConn conn) e
+allowed_input settings tables moment (Gone conn) e = unless_none (is_open_in tables conn) (NoConn conn) e
+allowed_input settings tables moment Take e = unless_none (nat_lt 0 (first_waiting tables)) NothingWaits e
+allowed_input settings tables moment (Answered query answer) e = unless_none (is_running_in tables query) (NotTaken query) e
+allowed_input settings tables moment (Late query) e =
+    let both : (is_running_in tables query ≡ true) × (late_refusal moment query (late_from settings tables query) ≡ None) = else_none _ _ _ e in
+    both_true (is_running_in tables query) _ both.0 (late_passes moment query (late_from settings tables query) (taken_has_limit settings (nth tables.queries query) both.0) both.1)
+allowed_input settings tables moment Tick e = refl
 
-made_for : (settings : Settings) (moment : ℕ) (st : State) (o : Option Request) → MoverHits settings moment st o (option_or_else o [] (hits_from (database_count settings) settings moment st))
-made_for settings moment st None = refl
-made_for settings moment st (Some r) = hits_are_hits settings moment st r
+made_for : (settings : Settings) (moment : ℕ) (tables : Tables) (o : Option Request) → ContinuedHits settings moment tables o (option_or_else o [] (hits_from (database_count settings) settings moment tables))
+made_for settings moment tables None = refl
+made_for settings moment tables (Some r) = hits_are_hits settings moment tables r
 
 -- the hits that an entry is given are its hits
 made_hits : (settings : Settings) (h : List Entry) (moment : ℕ) (input : Input) → EntryHits settings h moment input (hits settings h moment input)
 unfolding hits
 made_hits settings h moment input =
-    let there : Heard = heard settings moment input (with_due_replied settings moment (state settings h)) in
-    made_for settings moment (state settings h) (option_and_then (nth there.state.requests) there.mover)
+    let there : AfterInput = after_input settings moment input (with_due_replied settings moment (tables_of settings h)) in
+    made_for settings moment (tables_of settings h) (option_and_then (nth there.tables.requests) there.continued)
 
 next_is_next : (settings : Settings) (h : List Entry) (m : ℕ) (input : Input) → refusal settings h (entry_moment h m) input ≡ None → IsNext settings h (next_entry settings h m input)
 unfolding refusal next_entry
 next_is_next settings h m input e =
-    let both : (is_full settings h ≡ false) × (input_refusal settings (state settings h) (entry_moment h m) input ≡ None) = cond_none _ _ _ e in
-    record { later_or_same = omega arith; has_room = both.0; is_allowed = allowed_input settings (state settings h) (entry_moment h m) input both.1; hits = made_hits settings h (entry_moment h m) input }
+    let both : (is_full settings h ≡ false) × (input_refusal settings (tables_of settings h) (entry_moment h m) input ≡ None) = cond_none _ _ _ e in
+    record { later_or_same = omega arith; has_room = both.0; is_allowed = allowed_input settings (tables_of settings h) (entry_moment h m) input both.1; hits = made_hits settings h (entry_moment h m) input }
 
 legal_after : (settings : Settings) (h : List Entry) (m : ℕ) (input : Input) → IsLegal settings h → IsLegal settings (history_after settings h m input)
 legal_after settings h m input l = go (refusal settings h (entry_moment h m) input) refl
@@ -111,9 +111,9 @@ played_more settings (x ∷ xs) ys h = played_more settings xs ys (history_after
 events_more : (e : Entry) (g : List Entry) → events_of (e ∷ g) ≡ events_of g ++ (e.moment, e.input) ∷ []
 events_more e g = ap (map event_of) (reverse-append (e ∷ []) g) ∙ map-append event_of (reverse g) (e ∷ [])
 
-same_hits : (settings : Settings) (moment : ℕ) (st : State) (o : Option Request) (ms ns : List ℕ) → MoverHits settings moment st o ms → MoverHits settings moment st o ns → ms ≡ ns
-same_hits settings moment st None ms ns a b = a ∙ sym b
-same_hits settings moment st (Some r) ms ns a b = hits_are_unique settings moment st r ms ns a b
+same_hits : (settings : Settings) (moment : ℕ) (tables : Tables) (o : Option Request) (ms ns : List ℕ) → ContinuedHits settings moment tables o ms → ContinuedHits settings moment tables o ns → ms ≡ ns
+same_hits settings moment tables None ms ns a b = a ∙ sym b
+same_hits settings moment tables (Some r) ms ns a b = hits_are_unique settings moment tables r ms ns a b
 
 unless_true : (b : Bool) (r : Refused) → b ≡ true → unless b r ≡ None
 unless_true b r e = ap (λ x. unless x r) e
@@ -122,23 +122,23 @@ late_none : (moment query : ℕ) (o : Option ℕ) → passes_option (λ late. na
 late_none moment query None e = refl
 late_none moment query (Some due) e = unless_true (nat_le due moment) (NotLate query due) e
 
-input_allowed : (settings : Settings) (st : State) (moment : ℕ) (input : Input) → is_allowed settings st moment input ≡ true → input_refusal settings st moment input ≡ None
-input_allowed settings st moment (Opened kind random) e = unless_true (nat_lt (open_count st) settings.connections) (ConnLimit (open_count st)) e
-input_allowed settings st moment (Line conn text random) e = unless_true (is_open_in st conn) (NoConn conn) e
-input_allowed settings st moment (Broken conn) e = unless_true (is_open_in st conn) (NoConn conn) e
-input_allowed settings st moment (Gone conn) e = unless_true (is_open_in st conn) (NoConn conn) e
-input_allowed settings st moment Take e = unless_true (nat_lt 0 (first_waiting st)) NothingWaits e
-input_allowed settings st moment (Answered query answer) e = unless_true (is_running_in st query) (NotTaken query) e
-input_allowed settings st moment (Late query) e =
-    ap (λ b. cond b (late_refusal moment query (late_from settings st query)) (Some (NotTaken query))) (and_first (is_running_in st query) _ e)
-    ∙ late_none moment query (late_from settings st query) (and_second (is_running_in st query) _ e)
-input_allowed settings st moment Tick e = refl
+input_allowed : (settings : Settings) (tables : Tables) (moment : ℕ) (input : Input) → is_allowed settings tables moment input ≡ true → input_refusal settings tables moment input ≡ None
+input_allowed settings tables moment (Opened kind random) e = unless_true (nat_lt (open_count tables) settings.connections) (ConnLimit (open_count tables)) e
+input_allowed settings tables moment (Line conn text random) e = unless_true (is_open_in tables conn) (NoConn conn) e
+input_allowed settings tables moment (Broken conn) e = unless_true (is_open_in tables conn) (NoConn conn) e
+input_allowed settings tables moment (Gone conn) e = unless_true (is_open_in tables conn) (NoConn conn) e
+input_allowed settings tables moment Take e = unless_true (nat_lt 0 (first_waiting tables)) NothingWaits e
+input_allowed settings tables moment (Answered query answer) e = unless_true (is_running_in tables query) (NotTaken query) e
+input_allowed settings tables moment (Late query) e =
+    ap (λ b. cond b (late_refusal moment query (late_from settings tables query)) (Some (NotTaken query))) (and_first (is_running_in tables query) _ e)
+    ∙ late_none moment query (late_from settings tables query) (and_second (is_running_in tables query) _ e)
+input_allowed settings tables moment Tick e = refl
 
-none_refused : (settings : Settings) (g : List Entry) (moment : ℕ) (input : Input) → is_full settings g ≡ false → is_allowed settings (state settings g) moment input ≡ true → refusal settings g moment input ≡ None
+none_refused : (settings : Settings) (g : List Entry) (moment : ℕ) (input : Input) → is_full settings g ≡ false → is_allowed settings (tables_of settings g) moment input ≡ true → refusal settings g moment input ≡ None
 unfolding refusal
 none_refused settings g moment input room allowed =
-    ap (λ b. cond b (Some HistoryFull) (input_refusal settings (state settings g) moment input)) room
-    ∙ input_allowed settings (state settings g) moment input allowed
+    ap (λ b. cond b (Some HistoryFull) (input_refusal settings (tables_of settings g) moment input)) room
+    ∙ input_allowed settings (tables_of settings g) moment input allowed
 
 same_moment : (g : List Entry) (m : ℕ) → last_moment g ≤ m → entry_moment g m ≡ m
 same_moment g m h = omega (arith, h)
@@ -146,10 +146,10 @@ same_moment g m h = omega (arith, h)
 same_entry : (settings : Settings) (g : List Entry) (e : Entry) → IsNext settings g e → next_entry settings g e.moment e.input ≡ e
 unfolding next_entry entry_of
 same_entry settings g e n =
-    let there : Heard = heard settings e.moment e.input (with_due_replied settings e.moment (state settings g)) in
+    let there : AfterInput = after_input settings e.moment e.input (with_due_replied settings e.moment (tables_of settings g)) in
     ap (λ m. entry_of m e.input (hits settings g m e.input)) (same_moment g e.moment n.later_or_same)
     ∙ ap (entry_of e.moment e.input)
-    (same_hits settings e.moment (state settings g) (option_and_then (nth there.state.requests) there.mover) (hits settings g e.moment e.input) e.hits
+    (same_hits settings e.moment (tables_of settings g) (option_and_then (nth there.tables.requests) there.continued) (hits settings g e.moment e.input) e.hits
     (made_hits settings g e.moment e.input) n.hits)
 
 one_more : (settings : Settings) (g : List Entry) (e : Entry) → IsNext settings g e → history_after settings g e.moment e.input ≡ e ∷ g

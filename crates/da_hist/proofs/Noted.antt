@@ -9,22 +9,22 @@ use Rattle.da_hist.proofs.Rows.{of_changed, of_appended, of_mapped, nth-unchange
 use Rattle.da_hist.proofs.Standing.{same_stage}
 use Rattle.da_base.specs.Words.{nth, changed_nth, passes_option}
 use Rattle.da_fields.specs.declared.answer.Answer.{Answer}
-use Rattle.da_hist.specs.History.{state, after, with_due_replied, with_decision, replied_if_due}
+use Rattle.da_hist.specs.History.{tables_of, after, with_due_replied, with_decision, replied_if_due}
 use Rattle.da_hist.specs.Hits.{hit_with}
-use Rattle.da_hist.specs.LinesHeard.{new_request, with_text}
+use Rattle.da_hist.specs.Lines.{new_request, with_text}
 use Rattle.da_hist.specs.Queries.{with_answer, with_late_answer}
 use Rattle.da_hist.specs.ReplyLaws.{DecisionsAreNoted}
 use Rattle.da_hist.specs.Requests.{is_undecided, is_pending, is_due, is_held, request_stage, decision, decision_in}
-use Rattle.da_hist.specs.Tables.{with_end, cancelled, cancelled_of, is_of}
+use Rattle.da_hist.specs.Tables.{with_end, cancelled, as_cancelled_of, is_of}
 use Rattle.da_hist.specs.declared.input.Entry.{Entry}
 use Rattle.da_hist.specs.declared.input.Input.{Input}
 use Rattle.da_hist.specs.declared.settings.Settings.{Settings}
-use Rattle.da_hist.specs.declared.state.Asked.{Asked}
+use Rattle.da_hist.specs.declared.state.QueryRow.{QueryRow}
 use Rattle.da_hist.specs.declared.state.Decision.{Decision}
 use Rattle.da_hist.specs.declared.state.Request.{Request}
 use Rattle.da_hist.specs.declared.state.Stage.{Stage}
 use Rattle.da_hist.specs.declared.state.Stage.TheVariants.{Awaits, Asks, Decided}
-use Rattle.da_hist.specs.declared.state.State.{State}
+use Rattle.da_hist.specs.declared.state.Tables.{Tables}
 
 module _ (settings : Settings) where
   -- decided by its stage, and so noted unless it is cancelled; and replied only when it is noted
@@ -67,7 +67,7 @@ module _ (settings : Settings) where
   cancelled_noted : (r : Request) → IsNoted r → IsNoted (cancelled r)
   cancelled_noted r p = record { noted = λ d e. absurd (true≢false e); replied = λ e. p.replied e; by_stage = λ e. ap is_some (same_decision r (cancelled r) (same_stage settings r (cancelled r) refl refl refl refl)) ∙ p.by_stage e }
 
-  cancelled_of_noted : (conn : ℕ) (r : Request) → IsNoted r → IsNoted (cancelled_of conn r)
+  cancelled_of_noted : (conn : ℕ) (r : Request) → IsNoted r → IsNoted (as_cancelled_of conn r)
   cancelled_of_noted conn r p = by_test IsNoted (is_of conn r) (cancelled r) r (λ e. cancelled_noted r p) (λ e. p)
 
   -- a late answer goes to a request that isn't undecided
@@ -115,17 +115,17 @@ module _ (settings : Settings) where
       go (inl d) = subst IsNoted (same_Some r s (sym is ∙ ap (nth rs) (sym d) ∙ e)) p
       go (inr d) = all n s e (λ x. d (sym (same_Some m n x)))
 
-  module _ (moment : ℕ) (before : State) (entered : Input) (hits : List ℕ) where
-    abbrev pub noted_but : State → Option ℕ → List ℕ → Type 0
-    noted_but st m done = AllNotedBut m st.requests
+  module _ (moment : ℕ) (before : Tables) (entered : Input) (hits : List ℕ) where
+    abbrev pub noted_but : Tables → Option ℕ → List ℕ → Type 0
+    noted_but tables m done = AllNotedBut m tables.requests
 
-    abbrev pub all_noted : State → Option ℕ → Type 0
-    all_noted st m = AllNoted st.requests
+    abbrev pub all_noted : Tables → Option ℕ → Type 0
+    all_noted tables m = AllNoted tables.requests
 
     end_noted : (conn : ℕ) → AllNotedBut None before.requests → AllNotedBut None (with_end conn before).requests
     unfolding with_end
     end_noted conn p n r e h =
-        let was : (s : Request) × (nth before.requests n ≡ Some s) × (r ≡ cancelled_of conn s) = of_mapped (cancelled_of conn) before.requests n r e in
+        let was : (s : Request) × (nth before.requests n ≡ Some s) × (r ≡ as_cancelled_of conn s) = of_mapped (as_cancelled_of conn) before.requests n r e in
         subst IsNoted (sym was.2) (cancelled_of_noted conn was.0 (p n was.0 was.1 h))
 
     made_noted : (r : Request) → AllNotedBut None before.requests → AllNotedBut (Some (suc (length before.requests))) (before.requests ++ r ∷ [])
@@ -140,7 +140,7 @@ module _ (settings : Settings) where
     late_all n db answer u p = all_but_none _ (changed_noted (with_late_answer db answer) before.requests n
         (λ r e. late_noted db answer r (sym (ap (passes_option is_undecided) e) ∙ u) (p n r e (λ d. none-some n d))) (weaker_but n before.requests (all_of_none before.requests p)))
 
-    pub heard_noted : HeardParts settings moment before entered (λ st m. AllNotedBut m st.requests)
+    pub heard_noted : HeardParts settings moment before entered (λ tables m. AllNotedBut m tables.requests)
     heard_noted = record {
       opens = λ kind random l p. p;
       tells = λ conn change h p. p;
@@ -155,30 +155,30 @@ module _ (settings : Settings) where
 
     pub moved_noted : MovedParts settings moment before entered hits noted_but all_noted
     moved_noted = record {
-      hit = λ st mover number done rest a p is e w u q. changed_but (with_answer a.question.db p.0) st.requests mover q;
-      misses = λ st mover number done rest e w q. q;
-      rests = λ st q. all_of_none st.requests q;
-      awaits = λ st n r text is u e q. settled_noted st.requests n r is (open_noted r u (ap decision_in e)) q;
-      asks = λ st n r question is u e q. settled_noted st.requests n r is (open_noted r u (ap decision_in e)) q;
-      decides = λ st n r d is u e q. changed_noted (with_decision settings moment) st.requests n (λ s x. decision_noted moment s (decided_by s (subst (λ (y : Request). request_stage settings y ≡ Decided d) (same_Some r s (sym is ∙ x)) e))) q;
-      kept = λ st m query given a l run is k q. q;
+      hit = λ tables continued number done rest a p is e w u q. changed_but (with_answer a.question.db p.0) tables.requests continued q;
+      misses = λ tables continued number done rest e w q. q;
+      rests = λ tables q. all_of_none tables.requests q;
+      awaits = λ tables n r text is u e q. settled_noted tables.requests n r is (open_noted r u (ap decision_in e)) q;
+      asks = λ tables n r question is u e q. settled_noted tables.requests n r is (open_noted r u (ap decision_in e)) q;
+      decides = λ tables n r d is u e q. changed_noted (with_decision settings moment) tables.requests n (λ s x. decision_noted moment s (decided_by s (subst (λ (y : Request). request_stage settings y ≡ Decided d) (same_Some r s (sym is ∙ x)) e))) q;
+      kept = λ tables m query given a l run is k q. q;
     }
 
-  due_all : (moment : ℕ) (st : State) → AllNoted st.requests → AllNoted (with_due_replied settings moment st).requests
+  due_all : (moment : ℕ) (tables : Tables) → AllNoted tables.requests → AllNoted (with_due_replied settings moment tables).requests
   unfolding with_due_replied
-  due_all moment st p n r e =
-      let was : (s : Request) × (nth st.requests n ≡ Some s) × (r ≡ replied_if_due settings moment s) = of_mapped (replied_if_due settings moment) st.requests n r e in
+  due_all moment tables p n r e =
+      let was : (s : Request) × (nth tables.requests n ≡ Some s) × (r ≡ replied_if_due settings moment s) = of_mapped (replied_if_due settings moment) tables.requests n r e in
       subst IsNoted (sym was.2) (due_noted moment was.0 (p n was.0 was.1))
 
   start_noted : AllNoted []
   start_noted n r e = absurd (nowhere n r e)
 
-  pub history_noted : (h : List Entry) → AllNoted (state settings h).requests
+  pub history_noted : (h : List Entry) → AllNoted (tables_of settings h).requests
   history_noted [] = start_noted
   history_noted (e ∷ g) =
-      let before : State = with_due_replied settings e.moment (state settings g) in
-      an_entry_gives settings (state settings g) e (noted_but e.moment before e.input e.hits) (all_noted e.moment before e.input e.hits)
-      (heard_noted e.moment before e.input e.hits) (moved_noted e.moment before e.input e.hits) (all_but_none before.requests (due_all e.moment (state settings g) (history_noted g)))
+      let before : Tables = with_due_replied settings e.moment (tables_of settings g) in
+      an_entry_gives settings (tables_of settings g) e (noted_but e.moment before e.input e.hits) (all_noted e.moment before e.input e.hits)
+      (heard_noted e.moment before e.input e.hits) (moved_noted e.moment before e.input e.hits) (all_but_none before.requests (due_all e.moment (tables_of settings g) (history_noted g)))
 
 pub decisions_are_noted : DecisionsAreNoted
 decisions_are_noted settings h n r e = (history_noted settings h n r e).noted

@@ -9,7 +9,7 @@ use Rattle.da_fields.specs.declared.said.Said.{Said}
 use Rattle.da_fields.specs.declared.said.Said.TheVariants.{Challenge, Need, Proof as Proven, Bad}
 use Rattle.da_hist.specs.Attempts.{Attempt, mechanism_says, names, opening_named, opening_said, opening_by, opening, failure, after_proof, with_credentials, after_verdict, after_chain, stage_from, attempt_stage, login_in}
 use Rattle.da_hist.specs.declared.openings.Opening.{Opening}
-use Rattle.da_hist.specs.declared.openings.Opening.TheVariants.{Settled, LogsIn}
+use Rattle.da_hist.specs.declared.openings.Opening.TheVariants.{Immediate, LogsIn}
 use Rattle.da_hist.specs.Requests.{lookup_stage, body_stage, request_stage, decision_in, decision, login_of}
 use Rattle.da_hist.specs.SuccessLaws.{AllStrict, HasSuccess, OkHasItsAnswer}
 use Rattle.da_hist.specs.declared.settings.Settings.{Settings}
@@ -76,7 +76,7 @@ chain_ok m settings a login (Done v) s e t = success_has_its_answer settings.pas
 
 -- an attempt has no OK before a database is asked
 NoOk : Opening → Type 0
-NoOk (Settled s) = tells_ok s ≡ false
+NoOk (Immediate s) = tells_ok s ≡ false
 NoOk (LogsIn m login) = Unit {0}
 
 named_no : (m : Mech) (a : Attempt) (password : Option Bytes) (n : Option (Bytes × Option Bytes)) → NoOk (opening_named m a password n)
@@ -98,7 +98,7 @@ by_no (Some m) settings a = said_no m settings a (mechanism_says m settings a a.
 
 from_ok : (settings : Settings) (a : Attempt) (o : Opening) → NoOk o → AllStrict settings.passdb → tells_ok (stage_from settings a o) ≡ true → (login : Login) × (login_in o ≡ Some login) × HasSuccess settings.passdb login a.answers
 unfolding NoOk
-from_ok settings a (Settled s) n d t = absurd (true≢false (sym t ∙ n))
+from_ok settings a (Immediate s) n d t = absurd (true≢false (sym t ∙ n))
 from_ok settings a (LogsIn m login) n d t = (login, refl, chain_ok m settings a login (login_chain settings.passdb login a.answers) d refl t)
 
 attempt_ok : (settings : Settings) (a : Attempt) → AllStrict settings.passdb → tells_ok (attempt_stage settings a) ≡ true → (login : Login) × (login_in (opening settings a) ≡ Some login) × HasSuccess settings.passdb login a.answers
@@ -125,7 +125,7 @@ ok_has_its_answer settings r user fields last d e = body_ok settings r r.body d 
 -- ---- a USER
 
 NoUser : Opening → Type 0
-NoUser (Settled s) = tells_user s ≡ false
+NoUser (Immediate s) = tells_user s ≡ false
 NoUser (LogsIn m login) = Unit {0}
 
 u_named : (m : Mech) (a : Attempt) (password : Option Bytes) (n : Option (Bytes × Option Bytes)) → NoUser (opening_named m a password n)
@@ -179,7 +179,7 @@ u_chain m settings a (Done v) = u_verdict v.kind m settings a v
 
 u_from : (settings : Settings) (a : Attempt) (o : Opening) → NoUser o → tells_user (stage_from settings a o) ≡ false
 unfolding NoUser
-u_from settings a (Settled s) n = n
+u_from settings a (Immediate s) n = n
 u_from settings a (LogsIn m login) n = u_chain m settings a (login_chain settings.passdb login a.answers)
 
 u_attempt : (settings : Settings) (a : Attempt) → tells_user (attempt_stage settings a) ≡ false

@@ -10,18 +10,18 @@ use Rattle.da_hist.proofs.QueryReadings.{later_among}
 use Rattle.da_hist.proofs.Standing.{heard_stands, moved_stands, due_stand, undecided_is}
 use Rattle.da_base.specs.Words.{nth, changed_nth, passes_option}
 use Rattle.da_fields.specs.declared.answer.Answer.{Answer}
-use Rattle.da_hist.specs.History.{state, after, with_due_replied, with_decision, replied_if_due}
-use Rattle.da_hist.specs.LinesHeard.{new_request, with_text}
+use Rattle.da_hist.specs.History.{tables_of, after, with_due_replied, with_decision, replied_if_due}
+use Rattle.da_hist.specs.Lines.{new_request, with_text}
 use Rattle.da_hist.specs.Queries.{with_answer, with_late_answer}
-use Rattle.da_hist.specs.ReadingLaws.{Among, WasDecided, WasReplied, DecidedIsFirst, RepliedIsFirst}
+use Rattle.da_hist.specs.RowReadings.{Among, WasDecided, WasReplied, DecidedIsFirst, RepliedIsFirst}
 use Rattle.da_hist.specs.Requests.{is_undecided, is_pending, is_due, is_held, decision}
 use Rattle.da_hist.specs.StandingLaws.{TablesStand, RequestStands}
-use Rattle.da_hist.specs.Tables.{with_end, cancelled, cancelled_of, is_of}
+use Rattle.da_hist.specs.Tables.{with_end, cancelled, as_cancelled_of, is_of}
 use Rattle.da_hist.specs.declared.input.Entry.{Entry}
 use Rattle.da_hist.specs.declared.input.Input.{Input}
 use Rattle.da_hist.specs.declared.settings.Settings.{Settings}
 use Rattle.da_hist.specs.declared.state.Request.{Request}
-use Rattle.da_hist.specs.declared.state.State.{State}
+use Rattle.da_hist.specs.declared.state.Tables.{Tables}
 
 -- ---- one entry
 
@@ -29,8 +29,8 @@ none_if : (o : Option ℕ) → ((k : ℕ) → o ≡ Some k → ⊥) → o ≡ No
 none_if None h = refl
 none_if (Some k) h = absurd (h k refl)
 
-module _ (settings : Settings) (e : Entry) (origin : State) where
-  abbrev before : State
+module _ (settings : Settings) (e : Entry) (origin : Tables) where
+  abbrev before : Tables
   before = with_due_replied settings e.moment origin
 
   -- decided by this entry, which found it undecided
@@ -80,33 +80,33 @@ module _ (settings : Settings) (e : Entry) (origin : State) where
   late_touches : (db : ℕ) (answer : Answer) (r : Request) → Touches r (with_late_answer db answer r)
   late_touches db answer r = by_test (Touches r) (is_some r.decided) r (with_answer db answer r) (λ x. record { decided = refl; replied = refl }) (λ x. record { decided = refl; replied = refl })
 
-  cancelled_of_touches : (conn : ℕ) (r : Request) → Touches r (cancelled_of conn r)
+  cancelled_of_touches : (conn : ℕ) (r : Request) → Touches r (as_cancelled_of conn r)
   cancelled_of_touches conn r = by_test (Touches r) (is_of conn r) (cancelled r) r (λ x. record { decided = refl; replied = refl }) (λ x. record { decided = refl; replied = refl })
 
   end_came : (conn : ℕ) → BothCame before.requests → BothCame (with_end conn before).requests
   unfolding with_end
   end_came conn p = record {
-    decided = came_mapped (λ (r : Request). r.decided) AnyRow NewlyDecided origin.requests any any_on decided_moves (cancelled_of conn) before.requests (λ r. tt) (λ n r x is d. inl (sym (cancelled_of_touches conn r).decided ∙ d)) p.decided;
-    replied = came_mapped (λ (r : Request). r.replied) AnyRow NewlyReplied origin.requests any any_on replied_moves (cancelled_of conn) before.requests (λ r. tt) (λ n r x is d. inl (sym (cancelled_of_touches conn r).replied ∙ d)) p.replied;
+    decided = came_mapped (λ (r : Request). r.decided) AnyRow NewlyDecided origin.requests any any_on decided_moves (as_cancelled_of conn) before.requests (λ r. tt) (λ n r x is d. inl (sym (cancelled_of_touches conn r).decided ∙ d)) p.decided;
+    replied = came_mapped (λ (r : Request). r.replied) AnyRow NewlyReplied origin.requests any any_on replied_moves (as_cancelled_of conn) before.requests (λ r. tt) (λ n r x is d. inl (sym (cancelled_of_touches conn r).replied ∙ d)) p.replied;
   }
 
-  record CameNow (st : State) : Type 0 where
-    pub tables : TablesStand origin st
-    pub came : BothCame st.requests
+  record CameNow (tables : Tables) : Type 0 where
+    pub tables : TablesStand origin tables
+    pub came : BothCame tables.requests
 
-  abbrev came_now : State → Option ℕ → List ℕ → Type 0
-  came_now st m done = CameNow st
+  abbrev came_now : Tables → Option ℕ → List ℕ → Type 0
+  came_now tables m done = CameNow tables
 
-  abbrev came_after : State → Option ℕ → Type 0
-  came_after st m = BothCame st.requests
+  abbrev came_after : Tables → Option ℕ → Type 0
+  came_after tables m = BothCame tables.requests
 
-  stand : HeardParts settings e.moment before e.input (λ st m. TablesStand origin st)
+  stand : HeardParts settings e.moment before e.input (λ tables m. TablesStand origin tables)
   stand = heard_stands settings e.moment origin before e.input e.hits
 
-  stand_moved : MovedParts settings e.moment before e.input e.hits (λ st m done. TablesStand origin st) (λ st m. TablesStand origin st)
+  stand_moved : MovedParts settings e.moment before e.input e.hits (λ tables m done. TablesStand origin tables) (λ tables m. TablesStand origin tables)
   stand_moved = moved_stands settings e.moment origin before e.input e.hits
 
-  heard_came : HeardParts settings e.moment before e.input (λ st m. CameNow st)
+  heard_came : HeardParts settings e.moment before e.input (λ tables m. CameNow tables)
   heard_came = record {
     opens = λ kind random l p. record { tables = stand.opens kind random l p.tables; came = p.came };
     tells = λ conn change h p. record { tables = stand.tells conn change h p.tables; came = p.came };
@@ -120,14 +120,14 @@ module _ (settings : Settings) (e : Entry) (origin : State) where
   }
 
   -- the request that is decided was neither decided nor replied nor cancelled before
-  module _ (st : State) (n : ℕ) (r : Request) (is : nth st.requests n ≡ Some r) (u : is_undecided r ≡ true) (p : CameNow st) where
+  module _ (tables : Tables) (n : ℕ) (r : Request) (is : nth tables.requests n ≡ Some r) (u : is_undecided r ≡ true) (p : CameNow tables) where
     uncancelled : r.is_cancelled ≡ false
     uncancelled = not_true r.is_cancelled (and_first (not r.is_cancelled) _ (and_first (is_pending r) _ u))
 
     row_stands : (s : Request) → nth origin.requests n ≡ Some s → RequestStands s r
     row_stands s at = go (p.tables.requests n s at)
       where
-        go : (t : Request) × (nth st.requests n ≡ Some t) × RequestStands s t → RequestStands s r
+        go : (t : Request) × (nth tables.requests n ≡ Some t) × RequestStands s t → RequestStands s r
         go (t, there, k) = subst (RequestStands s) (same_Some t r (sym there ∙ is)) k
 
     not_cancelled : (s : Request) → nth origin.requests n ≡ Some s → s.is_cancelled ≡ false
@@ -143,30 +143,30 @@ module _ (settings : Settings) (e : Entry) (origin : State) where
     newly_replied : (m : ℕ) → m ≡ e.moment → NewlyReplied n r m
     newly_replied m d = (d, λ s at. (none_if s.replied (λ k x. none-some k (sym (none_there r.replied (undecided_is r u).1) ∙ (row_stands s at).replied k x)), not_cancelled s at))
 
-    decision_came : BothCame (changed_nth (with_decision settings e.moment) st.requests n)
+    decision_came : BothCame (changed_nth (with_decision settings e.moment) tables.requests n)
     decision_came = record {
-      decided = came_changed (λ (x : Request). x.decided) AnyRow NewlyDecided origin.requests any any_on decided_moves (with_decision settings e.moment) st.requests n (λ r. tt)
+      decided = came_changed (λ (x : Request). x.decided) AnyRow NewlyDecided origin.requests any any_on decided_moves (with_decision settings e.moment) tables.requests n (λ r. tt)
           (λ s x at d. inr (newly_decided x (same_Some x e.moment (sym d ∙ noted s)))) p.came.decided;
-      replied = came_changed (λ (x : Request). x.replied) AnyRow NewlyReplied origin.requests any any_on replied_moves (with_decision settings e.moment) st.requests n (λ r. tt) (λ s x at d. told s x d) p.came.replied;
+      replied = came_changed (λ (x : Request). x.replied) AnyRow NewlyReplied origin.requests any any_on replied_moves (with_decision settings e.moment) tables.requests n (λ r. tt) (λ s x at d. reported s x d) p.came.replied;
     }
       where
         noted : (s : Request) → (with_decision settings e.moment s).decided ≡ Some e.moment
         noted s = by_test (λ (x : Request). x.decided ≡ Some e.moment) (is_due settings e.moment (record s { decided = Some e.moment })) _ _ (λ x. refl) (λ x. refl)
 
-        told : (s : Request) (x : ℕ) → (with_decision settings e.moment s).replied ≡ Some x → (s.replied ≡ Some x) ⊎ NewlyReplied n r x
-        told s x = by_test (λ (y : Request). y.replied ≡ Some x → (s.replied ≡ Some x) ⊎ NewlyReplied n r x) (is_due settings e.moment (record s { decided = Some e.moment }))
+        reported : (s : Request) (x : ℕ) → (with_decision settings e.moment s).replied ≡ Some x → (s.replied ≡ Some x) ⊎ NewlyReplied n r x
+        reported s x = by_test (λ (y : Request). y.replied ≡ Some x → (s.replied ≡ Some x) ⊎ NewlyReplied n r x) (is_due settings e.moment (record s { decided = Some e.moment }))
             (record s { decided = Some e.moment; replied = Some e.moment }) (record s { decided = Some e.moment })
             (λ y d. inr (newly_replied x (sym (same_Some e.moment x d)))) (λ y d. inl d)
 
   moved_came : MovedParts settings e.moment before e.input e.hits came_now came_after
   moved_came = record {
-    hit = λ st mover number done rest a p is x w u q. record { tables = stand_moved.hit st mover number done rest a p is x w u q.tables; came = both_changed (with_answer a.question.db p.0) (λ r. record { decided = refl; replied = refl }) st.requests mover q.came };
-    misses = λ st mover number done rest x w q. q;
-    rests = λ st q. q.came;
-    awaits = λ st n r text is u x q. q.came;
-    asks = λ st n r question is u x q. q.came;
-    decides = λ st n r d is u x q. decision_came st n r is u q;
-    kept = λ st m query given a l run is k q. q;
+    hit = λ tables continued number done rest a p is x w u q. record { tables = stand_moved.hit tables continued number done rest a p is x w u q.tables; came = both_changed (with_answer a.question.db p.0) (λ r. record { decided = refl; replied = refl }) tables.requests continued q.came };
+    misses = λ tables continued number done rest x w q. q;
+    rests = λ tables q. q.came;
+    awaits = λ tables n r text is u x q. q.came;
+    asks = λ tables n r question is u x q. q.came;
+    decides = λ tables n r d is u x q. decision_came tables n r is u q;
+    kept = λ tables m query given a l run is k q. q;
   }
 
   due_came : BothCame before.requests
@@ -174,11 +174,11 @@ module _ (settings : Settings) (e : Entry) (origin : State) where
   due_came = record {
     decided = came_mapped (λ (r : Request). r.decided) AnyRow NewlyDecided origin.requests any any_on decided_moves (replied_if_due settings e.moment) origin.requests (λ r. tt)
         (λ n r x is d. inl (by_test (λ (y : Request). y.decided ≡ Some x → r.decided ≡ Some x) (is_due settings e.moment r) (record r { replied = Some e.moment }) r (λ y z. z) (λ y z. z) d)) (came_same (λ (r : Request). r.decided) AnyRow NewlyDecided origin.requests any any_on decided_moves);
-    replied = came_mapped (λ (r : Request). r.replied) AnyRow NewlyReplied origin.requests any any_on replied_moves (replied_if_due settings e.moment) origin.requests (λ r. tt) told (came_same (λ (r : Request). r.replied) AnyRow NewlyReplied origin.requests any any_on replied_moves);
+    replied = came_mapped (λ (r : Request). r.replied) AnyRow NewlyReplied origin.requests any any_on replied_moves (replied_if_due settings e.moment) origin.requests (λ r. tt) reported (came_same (λ (r : Request). r.replied) AnyRow NewlyReplied origin.requests any any_on replied_moves);
   }
     where
-      told : (n : ℕ) (r : Request) (x : ℕ) → nth origin.requests n ≡ Some r → (replied_if_due settings e.moment r).replied ≡ Some x → (r.replied ≡ Some x) ⊎ NewlyReplied n r x
-      told n r x is = by_test (λ (y : Request). y.replied ≡ Some x → (r.replied ≡ Some x) ⊎ NewlyReplied n r x) (is_due settings e.moment r) (record r { replied = Some e.moment }) r
+      reported : (n : ℕ) (r : Request) (x : ℕ) → nth origin.requests n ≡ Some r → (replied_if_due settings e.moment r).replied ≡ Some x → (r.replied ≡ Some x) ⊎ NewlyReplied n r x
+      reported n r x is = by_test (λ (y : Request). y.replied ≡ Some x → (r.replied ≡ Some x) ⊎ NewlyReplied n r x) (is_due settings e.moment r) (record r { replied = Some e.moment }) r
           (λ due d. inr (sym (same_Some e.moment x d), λ s at. held due s (same_Some s r (sym at ∙ is))))
           (λ y d. inl d)
         where
@@ -195,19 +195,19 @@ module _ (settings : Settings) (e : Entry) (origin : State) where
 
 module _ (settings : Settings) where
   -- at the end of a history, what isn't noted isn't decided by its stage
-  not_decided : (g : List Entry) (n : ℕ) (s : Request) → nth (state settings g).requests n ≡ Some s → s.decided ≡ None → s.is_cancelled ≡ false → is_some (decision settings s) ≡ false
+  not_decided : (g : List Entry) (n : ℕ) (s : Request) → nth (tables_of settings g).requests n ≡ Some s → s.decided ≡ None → s.is_cancelled ≡ false → is_some (decision settings s) ≡ false
   not_decided g n s is d c = go (is_some (decision settings s)) refl
     where
       go : (b : Bool) → is_some (decision settings s) ≡ b → b ≡ false
       go true x = absurd (true≢false (sym ((history_noted settings g n s is).noted x c) ∙ ap is_some d))
       go false x = refl
 
-  decided_by : (h : List Entry) (n m : ℕ) (r : Request) → nth (state settings h).requests n ≡ Some r → r.decided ≡ Some m → WasDecided settings h n m
+  decided_by : (h : List Entry) (n m : ℕ) (r : Request) → nth (tables_of settings h).requests n ≡ Some r → r.decided ≡ Some m → WasDecided settings h n m
   decided_by [] n m r is d = absurd (nowhere n r is)
-  decided_by (e ∷ g) n m r is d = go (decided_by g n m) ((entry_came settings e (state settings g)).decided n r m is d)
+  decided_by (e ∷ g) n m r is d = go (decided_by g n m) ((entry_came settings e (tables_of settings g)).decided n r m is d)
     where
-      go : ((s : Request) → nth (state settings g).requests n ≡ Some s → s.decided ≡ Some m → WasDecided settings g n m) →
-          WasThere (λ (r : Request). r.decided) (AnyRow settings e (state settings g)) (NewlyDecided settings e (state settings g)) (state settings g).requests n r m ⊎ NewlyDecided settings e (state settings g) n r m → WasDecided settings (e ∷ g) n m
+      go : ((s : Request) → nth (tables_of settings g).requests n ≡ Some s → s.decided ≡ Some m → WasDecided settings g n m) →
+          WasThere (λ (r : Request). r.decided) (AnyRow settings e (tables_of settings g)) (NewlyDecided settings e (tables_of settings g)) (tables_of settings g).requests n r m ⊎ NewlyDecided settings e (tables_of settings g) n r m → WasDecided settings (e ∷ g) n m
       go earlier (inl w) =
           let old : WasDecided settings g n m = earlier w.row w.stood w.had in
           record {
@@ -217,30 +217,30 @@ module _ (settings : Settings) where
             at_moment = old.at_moment;
             not_before = old.not_before;
             request = old.request;
-            stands = old.stands;
+            is_there = old.is_there;
             is_decided = old.is_decided;
           }
       go earlier (inr (x, fresh)) = record {
         entry = e;
         older = g;
-        among = record { newer = []; stands = refl };
+        among = record { newer = []; is_there = refl };
         at_moment = sym x;
         not_before = λ s at. not_decided g n s at (fresh s at).0 (fresh s at).1;
         request = r;
-        stands = is;
+        is_there = is;
         is_decided = (history_noted settings (e ∷ g) n r is).by_stage (ap is_some d);
       }
 
-  replied_by : (h : List Entry) (n m : ℕ) (r : Request) → nth (state settings h).requests n ≡ Some r → r.replied ≡ Some m → WasReplied settings h n m
+  replied_by : (h : List Entry) (n m : ℕ) (r : Request) → nth (tables_of settings h).requests n ≡ Some r → r.replied ≡ Some m → WasReplied settings h n m
   replied_by [] n m r is d = absurd (nowhere n r is)
-  replied_by (e ∷ g) n m r is d = go (replied_by g n m) ((entry_came settings e (state settings g)).replied n r m is d)
+  replied_by (e ∷ g) n m r is d = go (replied_by g n m) ((entry_came settings e (tables_of settings g)).replied n r m is d)
     where
-      go : ((s : Request) → nth (state settings g).requests n ≡ Some s → s.replied ≡ Some m → WasReplied settings g n m) →
-          WasThere (λ (r : Request). r.replied) (AnyRow settings e (state settings g)) (NewlyReplied settings e (state settings g)) (state settings g).requests n r m ⊎ NewlyReplied settings e (state settings g) n r m → WasReplied settings (e ∷ g) n m
+      go : ((s : Request) → nth (tables_of settings g).requests n ≡ Some s → s.replied ≡ Some m → WasReplied settings g n m) →
+          WasThere (λ (r : Request). r.replied) (AnyRow settings e (tables_of settings g)) (NewlyReplied settings e (tables_of settings g)) (tables_of settings g).requests n r m ⊎ NewlyReplied settings e (tables_of settings g) n r m → WasReplied settings (e ∷ g) n m
       go earlier (inl w) =
           let old : WasReplied settings g n m = earlier w.row w.stood w.had in
           record { entry = old.entry; older = old.older; among = later_among e g old.entry old.older old.among; at_moment = old.at_moment; not_before = old.not_before }
-      go earlier (inr (x, fresh)) = record { entry = e; older = g; among = record { newer = []; stands = refl }; at_moment = sym x; not_before = fresh }
+      go earlier (inr (x, fresh)) = record { entry = e; older = g; among = record { newer = []; is_there = refl }; at_moment = sym x; not_before = fresh }
 
 pub decided_is_first : DecidedIsFirst
 decided_is_first settings h n m r is d = decided_by settings h n m r is d

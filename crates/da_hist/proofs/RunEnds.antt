@@ -9,7 +9,7 @@ use Rattle.da_hist.proofs.Standing.{row_any}
 use Rattle.da_base.specs.Words.{Bytes, nth, passes_option}
 use Rattle.da_hist.specs.Effects.{wire, out, all_lines, entry_lines}
 use Rattle.da_hist.specs.EndLaws.{WireIsClosed, FullStaysFull, OverIsClosed}
-use Rattle.da_hist.specs.History.{state}
+use Rattle.da_hist.specs.History.{tables_of}
 use Rattle.da_hist.specs.Legal.{is_full, is_over, has_met, size, input_size}
 use Rattle.da_hist.specs.Tables.{is_open_in}
 use Rattle.da_hist.specs.declared.input.Entry.{Entry}
@@ -19,19 +19,19 @@ use Rattle.da_hist.specs.declared.state.Connection.{Connection}
 
 -- ---- connections
 
-filter-append : {A : Type 0} (test : A → Bool) (xs ys : List A) → filter test (xs ++ ys) ≡ filter test xs ++ filter test ys
-filter-append test [] ys = refl
-filter-append test (x ∷ xs) ys = go (test x) (filter-append test xs ys)
+filter-append : {A : Type 0} (comparison : A → Bool) (xs ys : List A) → filter comparison (xs ++ ys) ≡ filter comparison xs ++ filter comparison ys
+filter-append comparison [] ys = refl
+filter-append comparison (x ∷ xs) ys = go (comparison x) (filter-append comparison xs ys)
   where
-    go : (b : Bool) → filter test (xs ++ ys) ≡ filter test xs ++ filter test ys → cond b (x ∷ filter test (xs ++ ys)) (filter test (xs ++ ys)) ≡ cond b (x ∷ filter test xs) (filter test xs) ++ filter test ys
+    go : (b : Bool) → filter comparison (xs ++ ys) ≡ filter comparison xs ++ filter comparison ys → cond b (x ∷ filter comparison (xs ++ ys)) (filter comparison (xs ++ ys)) ≡ cond b (x ∷ filter comparison xs) (filter comparison xs) ++ filter comparison ys
     go true e = ap (λ zs. x ∷ zs) e
     go false e = e
 
-none_pass : {A : Type 0} (test : A → Bool) (xs : List A) → list_any test xs ≡ false → filter test xs ≡ []
-none_pass test [] e = refl
-none_pass test (x ∷ xs) e = go (test x) e (none_pass test xs)
+none_pass : {A : Type 0} (comparison : A → Bool) (xs : List A) → list_any comparison xs ≡ false → filter comparison xs ≡ []
+none_pass comparison [] e = refl
+none_pass comparison (x ∷ xs) e = go (comparison x) e (none_pass comparison xs)
   where
-    go : (b : Bool) → (b || list_any test xs) ≡ false → (list_any test xs ≡ false → filter test xs ≡ []) → cond b (x ∷ filter test xs) (filter test xs) ≡ []
+    go : (b : Bool) → (b || list_any comparison xs) ≡ false → (list_any comparison xs ≡ false → filter comparison xs ≡ []) → cond b (x ∷ filter comparison xs) (filter comparison xs) ≡ []
     go true d rest = absurd (true≢false d)
     go false d rest = rest d
 
@@ -78,4 +78,4 @@ none_open cs none (suc n) = go (nth cs (suc n)) refl
 
 pub over_is_closed : OverIsClosed
 over_is_closed settings None h over = absurd (true≢false (sym over))
-over_is_closed settings (Some goal) h over = none_open (state settings h).connections (not_true (list_any (λ c. c.is_open) (state settings h).connections) (and_second _ (not (list_any (λ c. c.is_open) (state settings h).connections)) over))
+over_is_closed settings (Some goal) h over = none_open (tables_of settings h).connections (not_true (list_any (λ c. c.is_open) (tables_of settings h).connections) (and_second _ (not (list_any (λ c. c.is_open) (tables_of settings h).connections)) over))

@@ -13,25 +13,25 @@ use Rattle.da_base.specs.Words.{Bytes, nth, changed_nth, passes_option, option_o
 use Rattle.da_fields.specs.declared.answer.Answer.{Answer}
 use Rattle.da_msgs.specs.Replies.{greeting}
 use Rattle.da_hist.specs.declared.effects.Effects.{Effects}
-use Rattle.da_hist.specs.Effects.{effects, entry_lines, due_lines, own_lines, reply_to, reply_lines, challenge_lines, greeting_lines, opened_by, mover_if, due_requests}
-use Rattle.da_hist.specs.History.{state, after, heard, with_due_replied, with_decision, replied_if_due}
+use Rattle.da_hist.specs.Effects.{effects, entry_lines, due_lines, own_lines, reply_to, reply_lines, challenge_lines, greeting_lines, opened_by, continued_if, due_requests}
+use Rattle.da_hist.specs.History.{tables_of, after, after_input, with_due_replied, with_decision, replied_if_due}
 use Rattle.da_hist.specs.Hits.{hit_with}
-use Rattle.da_hist.specs.LinesHeard.{new_request, with_text}
+use Rattle.da_hist.specs.Lines.{new_request, with_text}
 use Rattle.da_hist.specs.Queries.{with_answer, with_late_answer}
 use Rattle.da_hist.specs.ReplyLaws.{EndedIsSilent}
 use Rattle.da_hist.specs.Requests.{is_undecided, is_pending, is_due, is_held, request_stage, challenge_in, challenge_line}
 use Rattle.da_hist.specs.StandingLaws.{TablesStand, RequestStands, ConnectionStands}
-use Rattle.da_hist.specs.Tables.{Heard, with_end, closed, cancelled, cancelled_of, is_of}
+use Rattle.da_hist.specs.Tables.{AfterInput, with_end, closed, cancelled, as_cancelled_of, is_of}
 use Rattle.da_hist.specs.declared.input.Entry.{Entry}
 use Rattle.da_hist.specs.declared.input.Input.{Input}
 use Rattle.da_hist.specs.declared.input.Input.TheVariants.{Opened, Line, Broken, Gone, Take, Answered, Late, Tick}
 use Rattle.da_hist.specs.declared.settings.Settings.{Settings}
-use Rattle.da_hist.specs.declared.state.Asked.{Asked}
+use Rattle.da_hist.specs.declared.state.QueryRow.{QueryRow}
 use Rattle.da_hist.specs.declared.state.Body.{Body}
 use Rattle.da_hist.specs.declared.state.Connection.{Connection}
 use Rattle.da_hist.specs.declared.state.Decision.{Decision}
 use Rattle.da_hist.specs.declared.state.Request.{Request}
-use Rattle.da_hist.specs.declared.state.State.{State}
+use Rattle.da_hist.specs.declared.state.Tables.{Tables}
 
 -- ---- a request is cancelled or its connection is open
 
@@ -39,8 +39,8 @@ abbrev pub IsOpenAt : List Connection → ℕ → Type 0
 IsOpenAt cs conn = passes_option (λ c. c.is_open) (nth cs conn) ≡ true
 
 -- each request is cancelled, or its connection is open
-abbrev pub AllOpen : State → Type 0
-AllOpen st = (n : ℕ) (r : Request) → nth st.requests n ≡ Some r → r.is_cancelled ≡ false → IsOpenAt st.connections r.conn
+abbrev pub AllOpen : Tables → Type 0
+AllOpen tables = (n : ℕ) (r : Request) → nth tables.requests n ≡ Some r → r.is_cancelled ≡ false → IsOpenAt tables.connections r.conn
 
 undecided_uncancelled : (r : Request) → is_undecided r ≡ true → r.is_cancelled ≡ false
 undecided_uncancelled r u = not_true r.is_cancelled (and_first (not r.is_cancelled) _ (and_first (is_pending r) _ u))
@@ -98,16 +98,16 @@ still_open cs ds conn h o = go (nth cs conn) refl o
     go None e w = absurd (true≢false (sym w))
     go (Some c) e w = let d : (d : Connection) × (nth ds conn ≡ Some d) × (c.is_open ≡ true → d.is_open ≡ true) = h c e in ap (passes_option (λ c. c.is_open)) d.1 ∙ d.2 w
 
-module _ (settings : Settings) (moment : ℕ) (before : State) (entered : Input) (hits : List ℕ) where
-  abbrev pub open_now : State → Option ℕ → List ℕ → Type 0
-  open_now st m done = AllOpen st
+module _ (settings : Settings) (moment : ℕ) (before : Tables) (entered : Input) (hits : List ℕ) where
+  abbrev pub open_now : Tables → Option ℕ → List ℕ → Type 0
+  open_now tables m done = AllOpen tables
 
-  abbrev pub open_after : State → Option ℕ → Type 0
-  open_after st m = AllOpen st
+  abbrev pub open_after : Tables → Option ℕ → Type 0
+  open_after tables m = AllOpen tables
 
   end_open : (conn : ℕ) → AllOpen before → AllOpen (with_end conn before)
   unfolding with_end
-  end_open conn p n r e c = go (of_mapped (cancelled_of conn) before.requests n r e)
+  end_open conn p n r e c = go (of_mapped (as_cancelled_of conn) before.requests n r e)
     where
       other : (s : Request) → nth before.requests n ≡ Some s → (b : Bool) → is_of conn s ≡ b → r ≡ cond b (cancelled s) s → IsOpenAt (changed_nth closed before.connections conn) r.conn
       other s is true d w = absurd (true≢false (sym (ap (λ (x : Request). x.is_cancelled) w) ∙ c))
@@ -115,7 +115,7 @@ module _ (settings : Settings) (moment : ℕ) (before : State) (entered : Input)
           (ap (passes_option (λ c. c.is_open)) (nth-unchanged closed before.connections conn s.conn (λ x. true≢false (sym (eq-eqb s.conn conn x) ∙ d)))
           ∙ p n s is (sym (ap (λ (x : Request). x.is_cancelled) w) ∙ c))
 
-      go : (s : Request) × (nth before.requests n ≡ Some s) × (r ≡ cancelled_of conn s) → IsOpenAt (changed_nth closed before.connections conn) r.conn
+      go : (s : Request) × (nth before.requests n ≡ Some s) × (r ≡ as_cancelled_of conn s) → IsOpenAt (changed_nth closed before.connections conn) r.conn
       go (s, is, w) = other s is (is_of conn s) refl w
 
   open_elsewhere : (cs : List Connection) → ((conn : ℕ) → IsOpenAt before.connections conn → IsOpenAt cs conn) → AllOpen before → AllOpen (record before { connections = cs })
@@ -125,13 +125,13 @@ module _ (settings : Settings) (moment : ℕ) (before : State) (entered : Input)
   made_open conn id random body m p n r e c = go (of_appended before.requests (new_request moment conn id random body) r n e)
     where
       go : ((n ≡ suc (length before.requests)) × (r ≡ new_request moment conn id random body)) ⊎ (nth before.requests n ≡ Some r) → IsOpenAt before.connections r.conn
-      go (inl (at, same)) = subst (λ (x : Request). IsOpenAt before.connections x.conn) (sym same) (ap (passes_option (λ c. c.is_open)) m.stands ∙ m.is_connected)
+      go (inl (at, same)) = subst (λ (x : Request). IsOpenAt before.connections x.conn) (sym same) (ap (passes_option (λ c. c.is_open)) m.is_there ∙ m.is_connected)
       go (inr is) = p n r is c
 
-  pub heard_open : HeardParts settings moment before entered (λ st m. AllOpen st)
+  pub heard_open : HeardParts settings moment before entered (λ tables m. AllOpen tables)
   heard_open = record {
     opens = λ kind random l p. open_elsewhere _ (λ conn o. still_open before.connections _ conn (λ c e. (c, nth-before before.connections _ c conn e, λ x. x)) o) p;
-    tells = λ conn change h p. open_elsewhere _ (λ other o. still_open before.connections _ other (λ c e. told conn other change h c e) o) p;
+    tells = λ conn change h p. open_elsewhere _ (λ other o. still_open before.connections _ other (λ c e. reported conn other change h c e) o) p;
     ends = λ conn e p. end_open conn p;
     cancels = λ n e p. changed_open before.connections cancelled cancelled_keeps before.requests n p;
     texts = λ conn id random text m r is w p. changed_open before.connections (with_text text) (text_keeps text) before.requests _ p;
@@ -141,9 +141,9 @@ module _ (settings : Settings) (moment : ℕ) (before : State) (entered : Input)
     lates = λ query given a g is run u p. changed_open before.connections (with_late_answer a.question.db _) (late_keeps a.question.db _) before.requests a.request p;
   }
     where
-      told : (conn other : ℕ) (change : Connection → Connection) → ((c : Connection) → IsSameConnection c (change c)) → (c : Connection) → nth before.connections other ≡ Some c →
+      reported : (conn other : ℕ) (change : Connection → Connection) → ((c : Connection) → IsSameConnection c (change c)) → (c : Connection) → nth before.connections other ≡ Some c →
           (d : Connection) × (nth (changed_nth change before.connections conn) other ≡ Some d) × (c.is_open ≡ true → d.is_open ≡ true)
-      told conn other change h c e = go (same_or_not other conn)
+      reported conn other change h c e = go (same_or_not other conn)
         where
           go : (other ≡ conn) ⊎ (other ≡ conn → ⊥) → (d : Connection) × (nth (changed_nth change before.connections conn) other ≡ Some d) × (c.is_open ≡ true → d.is_open ≡ true)
           go (inl d) = (change c, ap (nth (changed_nth change before.connections conn)) d ∙ nth-changed change before.connections conn ∙ ap (option_map change) (ap (nth before.connections) (sym d) ∙ e), λ o. (h c).is_open ∙ o)
@@ -151,62 +151,62 @@ module _ (settings : Settings) (moment : ℕ) (before : State) (entered : Input)
 
   pub moved_open : MovedParts settings moment before entered hits open_now open_after
   moved_open = record {
-    hit = λ st mover number done rest a p is e w u q. changed_open st.connections (with_answer a.question.db p.0) (answer_keeps a.question.db p.0) st.requests mover q;
-    misses = λ st mover number done rest e w q. q;
-    rests = λ st q. q;
-    awaits = λ st n r text is u e q. q;
-    asks = λ st n r question is u e q. q;
-    decides = λ st n r d is u e q. changed_open st.connections (with_decision settings moment) (decision_keeps settings moment) st.requests n q;
-    kept = λ st m query given a l run is k q. q;
+    hit = λ tables continued number done rest a p is e w u q. changed_open tables.connections (with_answer a.question.db p.0) (answer_keeps a.question.db p.0) tables.requests continued q;
+    misses = λ tables continued number done rest e w q. q;
+    rests = λ tables q. q;
+    awaits = λ tables n r text is u e q. q;
+    asks = λ tables n r question is u e q. q;
+    decides = λ tables n r d is u e q. changed_open tables.connections (with_decision settings moment) (decision_keeps settings moment) tables.requests n q;
+    kept = λ tables m query given a l run is k q. q;
   }
 
-due_open : (settings : Settings) (moment : ℕ) (st : State) → AllOpen st → AllOpen (with_due_replied settings moment st)
+due_open : (settings : Settings) (moment : ℕ) (tables : Tables) → AllOpen tables → AllOpen (with_due_replied settings moment tables)
 unfolding with_due_replied
-due_open settings moment st p n r e c =
-    let was : (s : Request) × (nth st.requests n ≡ Some s) × (r ≡ replied_if_due settings moment s) = of_mapped (replied_if_due settings moment) st.requests n r e in
-    subst (λ (x : ℕ). IsOpenAt st.connections x) (sym (ap (λ (x : Request). x.conn) was.2 ∙ (due_keeps settings moment was.0).conn))
+due_open settings moment tables p n r e c =
+    let was : (s : Request) × (nth tables.requests n ≡ Some s) × (r ≡ replied_if_due settings moment s) = of_mapped (replied_if_due settings moment) tables.requests n r e in
+    subst (λ (x : ℕ). IsOpenAt tables.connections x) (sym (ap (λ (x : Request). x.conn) was.2 ∙ (due_keeps settings moment was.0).conn))
     (p n was.0 was.1 ((due_keeps settings moment was.0).cancelled (sym (ap (λ (x : Request). x.is_cancelled) was.2) ∙ c)))
 
 start_open : (n : ℕ) (r : Request) → nth [] n ≡ Some r → r.is_cancelled ≡ false → IsOpenAt [] r.conn
 start_open n r e c = absurd (nowhere n r e)
 
-pub all_open : (settings : Settings) (h : List Entry) → AllOpen (state settings h)
+pub all_open : (settings : Settings) (h : List Entry) → AllOpen (tables_of settings h)
 all_open settings [] = start_open
 all_open settings (e ∷ g) =
-    let before : State = with_due_replied settings e.moment (state settings g) in
-    an_entry_gives settings (state settings g) e (open_now settings e.moment before e.input e.hits) (open_after settings e.moment before e.input e.hits)
-    (heard_open settings e.moment before e.input e.hits) (moved_open settings e.moment before e.input e.hits) (due_open settings e.moment (state settings g) (all_open settings g))
+    let before : Tables = with_due_replied settings e.moment (tables_of settings g) in
+    an_entry_gives settings (tables_of settings g) e (open_now settings e.moment before e.input e.hits) (open_after settings e.moment before e.input e.hits)
+    (heard_open settings e.moment before e.input e.hits) (moved_open settings e.moment before e.input e.hits) (due_open settings e.moment (tables_of settings g) (all_open settings g))
 
 -- ---- the request that moves is on an open connection
 
-module _ (settings : Settings) (origin : State) (e : Entry) where
+module _ (settings : Settings) (origin : Tables) (e : Entry) where
   -- it wasn't cancelled
-  abbrev MoverOpen : State → Option ℕ → Type 0
-  MoverOpen st m = (n : ℕ) → m ≡ Some n → (r : Request) → nth st.requests n ≡ Some r → r.is_cancelled ≡ false
+  abbrev MoverOpen : Tables → Option ℕ → Type 0
+  MoverOpen tables m = (n : ℕ) → m ≡ Some n → (r : Request) → nth tables.requests n ≡ Some r → r.is_cancelled ≡ false
 
-  abbrev unit_now : State → Option ℕ → List ℕ → Type 0
-  unit_now st m done = Unit {0}
+  abbrev unit_now : Tables → Option ℕ → List ℕ → Type 0
+  unit_now tables m done = Unit {0}
 
-  abbrev before : State
+  abbrev before : Tables
   before = with_due_replied settings e.moment origin
 
-  of_mover : (st : State) (n : ℕ) (r : Request) → nth st.requests n ≡ Some r → is_undecided r ≡ true → MoverOpen st (Some n)
-  of_mover st n r is u k d s x = undecided_uncancelled s (subst (λ (y : Request). is_undecided y ≡ true) (same_Some r s (sym is ∙ ap (nth st.requests) (same_Some n k d) ∙ x)) u)
+  of_mover : (tables : Tables) (n : ℕ) (r : Request) → nth tables.requests n ≡ Some r → is_undecided r ≡ true → MoverOpen tables (Some n)
+  of_mover tables n r is u k d s x = undecided_uncancelled s (subst (λ (y : Request). is_undecided y ≡ true) (same_Some r s (sym is ∙ ap (nth tables.requests) (same_Some n k d) ∙ x)) u)
 
-  of_decided : (st : State) (n : ℕ) (r : Request) → nth st.requests n ≡ Some r → is_undecided r ≡ true → (k : ℕ) → Some n ≡ Some k → (s : Request) →
-      nth (changed_nth (with_decision settings e.moment) st.requests n) k ≡ Some s → s.is_cancelled ≡ false
-  of_decided st n r is u k d s x = go (mapped_value (with_decision settings e.moment) (nth st.requests n) s
-      (sym (nth-changed (with_decision settings e.moment) st.requests n) ∙ ap (nth (changed_nth (with_decision settings e.moment) st.requests n)) (same_Some n k d) ∙ x))
+  of_decided : (tables : Tables) (n : ℕ) (r : Request) → nth tables.requests n ≡ Some r → is_undecided r ≡ true → (k : ℕ) → Some n ≡ Some k → (s : Request) →
+      nth (changed_nth (with_decision settings e.moment) tables.requests n) k ≡ Some s → s.is_cancelled ≡ false
+  of_decided tables n r is u k d s x = go (mapped_value (with_decision settings e.moment) (nth tables.requests n) s
+      (sym (nth-changed (with_decision settings e.moment) tables.requests n) ∙ ap (nth (changed_nth (with_decision settings e.moment) tables.requests n)) (same_Some n k d) ∙ x))
     where
       same : (b : Bool) (a c : Request) → a.is_cancelled ≡ r.is_cancelled → c.is_cancelled ≡ r.is_cancelled → (cond b a c).is_cancelled ≡ r.is_cancelled
       same true a c p q = p
       same false a c p q = q
 
-      go : (q : Request) × (nth st.requests n ≡ Some q) × (s ≡ with_decision settings e.moment q) → s.is_cancelled ≡ false
+      go : (q : Request) × (nth tables.requests n ≡ Some q) × (s ≡ with_decision settings e.moment q) → s.is_cancelled ≡ false
       go (q, at, w) = ap (λ (y : Request). y.is_cancelled) (w ∙ ap (with_decision settings e.moment) (sym (same_Some r q (sym is ∙ at))))
           ∙ same (is_due settings e.moment (record r { decided = Some e.moment })) _ _ refl refl ∙ undecided_uncancelled r u
 
-  heard_unit : HeardParts settings e.moment before e.input (λ st m. Unit {0})
+  heard_unit : HeardParts settings e.moment before e.input (λ tables m. Unit {0})
   heard_unit = record {
     opens = λ kind random l p. tt;
     tells = λ conn change h p. tt;
@@ -221,16 +221,16 @@ module _ (settings : Settings) (origin : State) (e : Entry) where
 
   moved_mover : MovedParts settings e.moment before e.input e.hits unit_now MoverOpen
   moved_mover = record {
-    hit = λ st mover number done rest a p is x w u q. tt;
-    misses = λ st mover number done rest x w q. tt;
-    rests = λ st q n d. absurd (none-some n d);
-    awaits = λ st n r text is u x q. of_mover st n r is u;
-    asks = λ st n r question is u x q. of_mover st n r is u;
-    decides = λ st n r d is u x q. of_decided st n r is u;
-    kept = λ st m query given a l run is k q. q;
+    hit = λ tables continued number done rest a p is x w u q. tt;
+    misses = λ tables continued number done rest x w q. tt;
+    rests = λ tables q n d. absurd (none-some n d);
+    awaits = λ tables n r text is u x q. of_mover tables n r is u;
+    asks = λ tables n r question is u x q. of_mover tables n r is u;
+    decides = λ tables n r d is u x q. of_decided tables n r is u;
+    kept = λ tables m query given a l run is k q. q;
   }
 
-  pub mover_open : MoverOpen (after settings origin e) (heard settings e.moment e.input before).mover
+  pub mover_open : MoverOpen (after settings origin e) (after_input settings e.moment e.input before).continued
   mover_open = an_entry_gives settings origin e unit_now MoverOpen heard_unit moved_mover tt
 
 -- ---- the lines of an entry
@@ -238,52 +238,52 @@ module _ (settings : Settings) (origin : State) (e : Entry) where
 abbrev one_if : Bool → ℕ
 one_if b = cond b 1 0
 
-module _ (settings : Settings) (e : Entry) (g : List Entry) (conn : ℕ) (c : Connection) (is : nth (state settings g).connections conn ≡ Some c) (ended : c.is_open ≡ false) where
-  abbrev st : State
-  st = state settings g
+module _ (settings : Settings) (e : Entry) (g : List Entry) (conn : ℕ) (c : Connection) (is : nth (tables_of settings g).connections conn ≡ Some c) (ended : c.is_open ≡ false) where
+  abbrev tables : Tables
+  tables = tables_of settings g
 
-  abbrev final : State
-  final = after settings st e
+  abbrev final : Tables
+  final = after settings tables e
 
-  abbrev told : ℕ × Bytes → Bool
-  told l = l.0 == conn
+  abbrev reported : ℕ × Bytes → Bool
+  reported l = l.0 == conn
 
   abbrev IsSilent : List (ℕ × Bytes) → Type 0
-  IsSilent xs = list_any told xs ≡ false
+  IsSilent xs = list_any reported xs ≡ false
 
   no_more : (a b : Bool) → a ≡ false → b ≡ false → (a || b) ≡ false
   no_more a b x y = ap₂ (λ p q. p || q) x y
 
   both_silent : (xs ys : List (ℕ × Bytes)) → IsSilent xs → IsSilent ys → IsSilent (xs ++ ys)
-  both_silent xs ys p q = list_any-append told xs ys ∙ no_more _ _ p q
+  both_silent xs ys p q = list_any-append reported xs ys ∙ no_more _ _ p q
 
   line_silent : (other : ℕ) (text : Bytes) → other ≢ conn → IsSilent ((other, text) ∷ [])
   line_silent other text h = no_more (other == conn) false (ne_eqb other conn h) refl
 
   -- it isn't open at the start, nor at the end
-  not_open : IsOpenAt st.connections conn → ⊥
+  not_open : IsOpenAt tables.connections conn → ⊥
   not_open o = true≢false (sym o ∙ ap (passes_option (λ c. c.is_open)) is ∙ ended)
 
   not_open_after : IsOpenAt final.connections conn → ⊥
-  not_open_after o = go ((entry_stands settings st e).connections conn c is)
+  not_open_after o = go ((entry_stands settings tables e).connections conn c is)
     where
       go : (d : Connection) × (nth final.connections conn ≡ Some d) × ConnectionStands c d → ⊥
       go (d, at, k) = true≢false (sym (k.is_ended (sym (ap (passes_option (λ c. c.is_open)) at) ∙ o)) ∙ ended)
 
   -- the requests whose replies are due are on open connections
-  due_on_other : (n : ℕ) (r : Request) → nth final.requests n ≡ Some r → passes_option (is_due settings e.moment) (nth st.requests n) ≡ true → r.conn ≢ conn
+  due_on_other : (n : ℕ) (r : Request) → nth final.requests n ≡ Some r → passes_option (is_due settings e.moment) (nth tables.requests n) ≡ true → r.conn ≢ conn
   unfolding is_due
-  due_on_other n r at d = go (nth st.requests n) refl d
+  due_on_other n r at d = go (nth tables.requests n) refl d
     where
-      go : (o : Option Request) → nth st.requests n ≡ o → passes_option (is_due settings e.moment) o ≡ true → r.conn ≢ conn
+      go : (o : Option Request) → nth tables.requests n ≡ o → passes_option (is_due settings e.moment) o ≡ true → r.conn ≢ conn
       go None x w = absurd (true≢false (sym w))
-      go (Some s) x w = later ((entry_stands settings st e).requests n s x)
+      go (Some s) x w = later ((entry_stands settings tables e).requests n s x)
         where
           uncancelled : s.is_cancelled ≡ false
           uncancelled = not_true s.is_cancelled (and_second (is_some s.decided) _ (and_first (is_some s.decided && not s.is_cancelled) _ (and_first (is_held s) _ w)))
 
           later : (t : Request) × (nth final.requests n ≡ Some t) × RequestStands s t → r.conn ≢ conn
-          later (t, there, k) y = not_open (subst (λ (z : ℕ). IsOpenAt st.connections z) (sym (ap (λ (z : Request). z.conn) (same_Some r t (sym at ∙ there)) ∙ k.conn) ∙ y) (all_open settings g n s x uncancelled))
+          later (t, there, k) y = not_open (subst (λ (z : ℕ). IsOpenAt tables.connections z) (sym (ap (λ (z : Request). z.conn) (same_Some r t (sym at ∙ there)) ∙ k.conn) ∙ y) (all_open settings g n s x uncancelled))
 
   replies_silent : (n : ℕ) → ((r : Request) → nth final.requests n ≡ Some r → r.conn ≢ conn) → IsSilent (reply_lines settings final n)
   replies_silent n h = go (nth final.requests n) refl
@@ -330,9 +330,9 @@ module _ (settings : Settings) (e : Entry) (g : List Entry) (conn : ℕ) (c : Co
       further : (m : ℕ) → times m ns ≢ 0 → times m (n ∷ ns) ≢ 0
       further m k x = k (let y : times m ns ≡ 0 = omega (arith, x) in y)
 
-  due_silent : IsSilent (due_lines settings final (effects settings st e))
+  due_silent : IsSilent (due_lines settings final (effects settings tables e))
   unfolding effects
-  due_silent = each_silent (reply_lines settings final) (due_requests settings st e.moment) (λ n k. replies_silent n (λ r at. due_on_other n r at (is_among n (nth st.requests n) (λ z. k (times-due settings st e.moment n ∙ z)))))
+  due_silent = each_silent (reply_lines settings final) (due_requests settings tables e.moment) (λ n k. replies_silent n (λ r at. due_on_other n r at (is_among n (nth tables.requests n) (λ z. k (times-due settings tables e.moment n ∙ z)))))
     where
       is_among : (n : ℕ) (o : Option Request) → (option_or_else o zero (λ r. one_if (is_due settings e.moment r)) ≡ zero → ⊥) → passes_option (is_due settings e.moment) o ≡ true
       is_among n None h = absurd (h refl)
@@ -342,8 +342,8 @@ module _ (settings : Settings) (e : Entry) (g : List Entry) (conn : ℕ) (c : Co
           go true h = refl
           go false h = absurd (h refl)
 
-  opened_silent : (input : Input) → IsSilent (flat_map (greeting_lines settings final) (option_to_list (opened_by input st)))
-  opened_silent (Opened kind random) = both_silent _ [] (greetings_silent (suc (length st.connections)) (λ d. nth-past st.connections c (ap (nth st.connections) d ∙ is))) refl
+  opened_silent : (input : Input) → IsSilent (flat_map (greeting_lines settings final) (option_to_list (opened_by input tables)))
+  opened_silent (Opened kind random) = both_silent _ [] (greetings_silent (suc (length tables.connections)) (λ d. nth-past tables.connections c (ap (nth tables.connections) d ∙ is))) refl
   opened_silent (Line conn text random) = refl
   opened_silent (Broken conn) = refl
   opened_silent (Gone conn) = refl
@@ -352,29 +352,29 @@ module _ (settings : Settings) (e : Entry) (g : List Entry) (conn : ℕ) (c : Co
   opened_silent (Late query) = refl
   opened_silent Tick = refl
 
-  abbrev mover : Option ℕ
-  mover = (heard settings e.moment e.input (with_due_replied settings e.moment st)).mover
+  abbrev continued : Option ℕ
+  continued = (after_input settings e.moment e.input (with_due_replied settings e.moment tables)).continued
 
-  mover_silent : (f : ℕ → List (ℕ × Bytes)) → ((n : ℕ) → ((r : Request) → nth final.requests n ≡ Some r → r.conn ≢ conn) → IsSilent (f n)) → (test : Request → Bool) →
-      IsSilent (flat_map f (option_to_list (mover_if test final.requests mover)))
-  mover_silent f h test = go mover (λ n d r at. mover_open settings st e n d r at)
+  mover_silent : (f : ℕ → List (ℕ × Bytes)) → ((n : ℕ) → ((r : Request) → nth final.requests n ≡ Some r → r.conn ≢ conn) → IsSilent (f n)) → (comparison : Request → Bool) →
+      IsSilent (flat_map f (option_to_list (continued_if comparison final.requests continued)))
+  mover_silent f h comparison = go continued (λ n d r at. mover_open settings tables e n d r at)
     where
       once : (n : ℕ) → ((r : Request) → nth final.requests n ≡ Some r → r.is_cancelled ≡ false) → (b : Bool) → IsSilent (flat_map f (option_to_list (cond b (Some n) None)))
       once n k true = both_silent (f n) [] (h n (λ r at y. not_open_after (subst (λ (z : ℕ). IsOpenAt final.connections z) y (all_open settings (e ∷ g) n r at (k r at))))) refl
       once n k false = refl
 
-      go : (o : Option ℕ) → ((n : ℕ) → o ≡ Some n → (r : Request) → nth final.requests n ≡ Some r → r.is_cancelled ≡ false) → IsSilent (flat_map f (option_to_list (mover_if test final.requests o)))
+      go : (o : Option ℕ) → ((n : ℕ) → o ≡ Some n → (r : Request) → nth final.requests n ≡ Some r → r.is_cancelled ≡ false) → IsSilent (flat_map f (option_to_list (continued_if comparison final.requests o)))
       go None k = refl
-      go (Some n) k = once n (k n refl) (passes_option test (nth final.requests n))
+      go (Some n) k = once n (k n refl) (passes_option comparison (nth final.requests n))
 
-  own_silent : IsSilent (own_lines settings final (effects settings st e))
+  own_silent : IsSilent (own_lines settings final (effects settings tables e))
   unfolding effects
   own_silent = both_silent _ _
       (both_silent _ _ (opened_silent e.input) (mover_silent (challenge_lines settings final) challenges_silent (λ r. is_some (challenge_in (request_stage settings r)))))
       (mover_silent (reply_lines settings final) replies_silent (λ r. is_some r.replied))
 
   pub lines_silent : IsSilent (entry_lines settings e g)
-  lines_silent = both_silent (due_lines settings final (effects settings st e)) (own_lines settings final (effects settings st e)) due_silent own_silent
+  lines_silent = both_silent (due_lines settings final (effects settings tables e)) (own_lines settings final (effects settings tables e)) due_silent own_silent
 
 pub ended_is_silent : EndedIsSilent
 ended_is_silent settings e g conn c is ended = lines_silent settings e g conn c is ended

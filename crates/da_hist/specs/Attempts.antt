@@ -25,7 +25,7 @@ use Rattle.da_passdb.specs.declared.login.Login.{Login}
 use Rattle.da_passdb.specs.declared.login.Proof.{Proof}
 use Rattle.da_passdb.specs.declared.login.Proof.TheVariants.{Plain as Password, Cram, Scram}
 use Rattle.da_hist.specs.declared.openings.Opening.{Opening}
-use Rattle.da_hist.specs.declared.openings.Opening.TheVariants.{Settled, LogsIn}
+use Rattle.da_hist.specs.declared.openings.Opening.TheVariants.{Immediate, LogsIn}
 use Rattle.da_hist.specs.declared.settings.Settings.{Settings}
 use Rattle.da_hist.specs.declared.state.Decision.TheVariants.{Success, Failure}
 use Rattle.da_hist.specs.declared.state.Stage.{Stage}
@@ -123,17 +123,17 @@ vars_for user params =
     }
 
 abbrev pub opening_named : Mech → Attempt → Option Bytes → Option (Bytes × Option Bytes) → Opening
-opening_named mech attempt password None = Settled (fails_for (codes "Invalid user name"))
+opening_named mech attempt password None = Immediate (fails_for (codes "Invalid user name"))
 opening_named mech attempt password (Some n) =
     LogsIn mech (record { user = n.0; master = n.1; proof = login_proof mech password; vars = vars_for n.0 attempt.params })
 
 abbrev pub opening_said : Mech → Settings → Attempt → Said → Opening
-opening_said mech settings attempt (Challenge text) = Settled (Awaits text)
+opening_said mech settings attempt (Challenge text) = Immediate (Awaits text)
 opening_said mech settings attempt (Need name authzid password) = opening_named mech attempt password (names settings name authzid)
-opening_said mech settings attempt _ = Settled (fails_for (codes "Invalid response"))
+opening_said mech settings attempt _ = Immediate (fails_for (codes "Invalid response"))
 
 abbrev pub opening_by : Option Mech → Settings → Attempt → Opening
-opening_by None settings attempt = Settled (fails_for (codes "Unsupported mechanism"))
+opening_by None settings attempt = Immediate (fails_for (codes "Unsupported mechanism"))
 opening_by (Some mech) settings attempt = opening_said mech settings attempt (mechanism_says mech settings attempt attempt.messages None)
 
 -- what comes of an attempt before any database is asked
@@ -141,7 +141,7 @@ unfoldable pub opening : Settings → Attempt → Opening
 opening settings attempt = opening_by attempt.mech settings attempt
 
 abbrev pub login_in : Opening → Option Login
-login_in (Settled s) = None
+login_in (Immediate s) = None
 login_in (LogsIn mech login) = Some login
 
 -- ---- from the chain's verdict to the decision
@@ -184,7 +184,7 @@ after_chain mech settings attempt (Ask db kind user checked) = Asks (record { db
 after_chain mech settings attempt (Done v) = after_verdict v.kind mech settings attempt v
 
 abbrev pub stage_from : Settings → Attempt → Opening → Stage
-stage_from settings attempt (Settled s) = s
+stage_from settings attempt (Immediate s) = s
 stage_from settings attempt (LogsIn mech login) = after_chain mech settings attempt (login_chain settings.passdb login attempt.answers)
 
 -- the stage of an attempt: it depends on nothing else

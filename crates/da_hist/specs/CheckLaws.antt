@@ -7,44 +7,44 @@ use Rattle.da_hist.specs.declared.input.Entry.{Entry}
 use Rattle.da_hist.specs.declared.input.Input.{Input}
 use Rattle.da_hist.specs.declared.input.Input.TheVariants.{Answered}
 use Rattle.da_hist.specs.declared.settings.Settings.{Settings}
-use Rattle.da_hist.specs.declared.state.Asked.{Asked}
+use Rattle.da_hist.specs.declared.state.QueryRow.{QueryRow}
 use Rattle.da_hist.specs.declared.state.Question.{Question}
 use Rattle.da_hist.specs.declared.state.Request.{Request}
-use Rattle.da_hist.specs.declared.state.State.{State}
-use Rattle.da_hist.specs.Queries.{recorded_answer, use_test}
-use Rattle.da_hist.specs.History.{state}
+use Rattle.da_hist.specs.declared.state.Tables.{Tables}
+use Rattle.da_hist.specs.Queries.{recorded_answer, use_comparison}
+use Rattle.da_hist.specs.History.{tables_of}
 use Rattle.da_hist.specs.Legal.{entry_moment}
 use Rattle.da_hist.specs.Play.{refusal}
-use Rattle.da_hist.specs.Checks.{Compared, use_check, known_answer, hint}
+use Rattle.da_hist.specs.Comparing.{Compared, use_compares, known_answer, hint}
 
 -- the answer that the input records, for the question of its query
-pub record IsRecordedAnswer (st : State) (input : Input) (question : Question) (answer : Answer) : Type 0 where
+pub record IsRecordedAnswer (tables : Tables) (input : Input) (question : Question) (answer : Answer) : Type 0 where
   pub query : ℕ
   pub given : Answer
   pub is_answered : input ≡ Answered query given
-  pub row : Asked
-  pub stands : nth st.queries query ≡ Some row
+  pub row : QueryRow
+  pub is_there : nth tables.queries query ≡ Some row
   pub asks : row.question ≡ question
-  pub is_recorded : recorded_answer question.kind given ≡ answer
+  pub is_answer_recorded : recorded_answer question.kind given ≡ answer
 
 -- a use of an answer compares these two, and finds whether they match: a use of the answer that the input records, or of
 -- the newest answer that is known within its life
-pub record IsCompared (settings : Settings) (moment : ℕ) (st : State) (input : Input) (c : Compared) : Type 0 where
+pub record IsCompared (settings : Settings) (moment : ℕ) (tables : Tables) (input : Input) (c : Compared) : Type 0 where
   pub request : Request
   pub question : Question
   pub answer : Answer
-  pub is_check : use_check settings request question answer ≡ Some c
-  pub is_test : use_test settings request question answer ≡ Some (matches c.0 c.1)
-  pub is_known : IsRecordedAnswer st input question answer ⊎ (known_answer settings moment st question ≡ Some answer)
+  pub is_check : use_compares settings request question answer ≡ Some c
+  pub is_test : use_comparison settings request question answer ≡ Some (matches c.0 c.1)
+  pub is_known : IsRecordedAnswer tables input question answer ⊎ (known_answer settings moment tables question ≡ Some answer)
 
 -- what a use compares is what it tests
-abbrev pub ChecksAreTests : Type 0
-ChecksAreTests =
-    (settings : Settings) (r : Request) (q : Question) (answer : Answer) (c : Compared) → use_check settings r q answer ≡ Some c →
-    use_test settings r q answer ≡ Some (matches c.0 c.1)
+abbrev pub ComparisonsAreOfPasswords : Type 0
+ComparisonsAreOfPasswords =
+    (settings : Settings) (r : Request) (q : Question) (answer : Answer) (c : Compared) → use_compares settings r q answer ≡ Some c →
+    use_comparison settings r q answer ≡ Some (matches c.0 c.1)
 
 -- what a hint names is compared by the entry that it is for, which isn't refused
 abbrev pub HintsAreCompared : Type 0
 HintsAreCompared =
     (settings : Settings) (h : List Entry) (m : ℕ) (input : Input) (c : Compared) → hint settings h m input ≡ Some c →
-    (refusal settings h (entry_moment h m) input ≡ None) × IsCompared settings (entry_moment h m) (state settings h) input c
+    (refusal settings h (entry_moment h m) input ≡ None) × IsCompared settings (entry_moment h m) (tables_of settings h) input c

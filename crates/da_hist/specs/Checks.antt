@@ -2,22 +2,22 @@
 use Rattle.std.specs.Prelude.{ℕ, zero, suc, ◌-◌, ◌&&◌, not, List, Option, Some, None, option_and_then, if◌then◌else◌, nat_le, ◌==◌, is_none}
 use Rattle.da_base.specs.Words.{Bytes, nth, passes_option}
 use Rattle.da_keys.specs.Keys.{has_key}
-use Rattle.da_passdb.specs.Outcomes.{password_check}
+use Rattle.da_passdb.specs.Outcomes.{password_compared}
 use Rattle.da_schemes.specs.Stored.{StoredPassword}
 use Rattle.da_fields.specs.declared.answer.Answer.{Answer}
 use Rattle.da_hist.specs.declared.input.Entry.{Entry}
 use Rattle.da_hist.specs.declared.input.Input.{Input}
 use Rattle.da_hist.specs.declared.input.Input.TheVariants.{Answered}
 use Rattle.da_hist.specs.declared.settings.Settings.{Settings}
-use Rattle.da_hist.specs.declared.state.Asked.{Asked}
+use Rattle.da_hist.specs.declared.state.QueryRow.{QueryRow}
 use Rattle.da_hist.specs.declared.state.Question.{Question}
 use Rattle.da_hist.specs.declared.state.Request.{Request}
-use Rattle.da_hist.specs.declared.state.State.{State}
+use Rattle.da_hist.specs.declared.state.Tables.{Tables}
 use Rattle.da_hist.specs.Requests.{request_stage, question_in, login_of, is_authentication, is_undecided}
-use Rattle.da_hist.specs.Tables.{Heard}
-use Rattle.da_hist.specs.Queries.{is_running, key_of, life, recorded_answer}
+use Rattle.da_hist.specs.Tables.{AfterInput}
+use Rattle.da_hist.specs.Queries.{is_running, key_of, ttl_of, recorded_answer}
 use Rattle.da_hist.specs.Hits.{newest, hit_for, with_hit, database_count}
-use Rattle.da_hist.specs.History.{state, heard, with_due_replied}
+use Rattle.da_hist.specs.History.{tables_of, after_input, with_due_replied}
 use Rattle.da_hist.specs.Play.{refusal}
 use Rattle.da_hist.specs.Legal.{entry_moment}
 
@@ -26,61 +26,61 @@ abbrev pub Compared : Type 0
 Compared = StoredPassword × Bytes
 
 -- what a request's use of an answer compares
-abbrev pub use_check : Settings → Request → Question → Answer → Option Compared
-use_check settings r q answer =
+abbrev pub use_compares : Settings → Request → Question → Answer → Option Compared
+use_compares settings r q answer =
     if is_authentication r.body
-    then option_and_then (λ login. option_and_then (λ db. password_check db login q.checked answer) (nth settings.passdb q.db)) (login_of settings r)
+    then option_and_then (λ login. option_and_then (λ db. password_compared db login q.checked answer) (nth settings.passdb q.db)) (login_of settings r)
     else None
 
 -- the answer, where it is within its life
-abbrev pub living : Settings → ℕ → Answer × ℕ → Option Answer
-living settings moment p = if not (life settings p.0 == 0) && nat_le (moment - p.1) (life settings p.0) then Some p.0 else None
+abbrev pub within_ttl : Settings → ℕ → Answer × ℕ → Option Answer
+within_ttl settings moment p = if not (ttl_of settings p.0 == 0) && nat_le (moment - p.1) (ttl_of settings p.0) then Some p.0 else None
 
-abbrev pub living_in : Settings → ℕ → Option Asked → Option Answer
-living_in settings moment None = None
-living_in settings moment (Some a) = option_and_then (living settings moment) a.answer
+abbrev pub within_ttl_in : Settings → ℕ → Option QueryRow → Option Answer
+within_ttl_in settings moment None = None
+within_ttl_in settings moment (Some a) = option_and_then (within_ttl settings moment) a.answer
 
 -- the newest answer to a question whose key is in the cache, within its life
-abbrev pub known_answer : Settings → ℕ → State → Question → Option Answer
-known_answer settings moment st q =
-    if has_key (key_of q) st.keys then living_in settings moment (option_and_then (nth st.queries) (newest st (key_of q))) else None
+abbrev pub known_answer : Settings → ℕ → Tables → Question → Option Answer
+known_answer settings moment tables q =
+    if has_key (key_of q) tables.keys then within_ttl_in settings moment (option_and_then (nth tables.queries) (newest tables (key_of q))) else None
 
 abbrev pub first_of_two : {A : Type 0} → Option A → Option A → Option A
 first_of_two (Some x) other = Some x
 first_of_two None other = other
 
 -- the first check among the questions from here on, each answered by a hit before the next
-abbrev pub check_from : ℕ → Settings → ℕ → State → Request → Option Compared
-check_from zero settings moment st r = None
-check_from (suc databases) settings moment st r =
+abbrev pub compares_from : ℕ → Settings → ℕ → Tables → Request → Option Compared
+compares_from zero settings moment tables r = None
+compares_from (suc databases) settings moment tables r =
     option_and_then (λ q. first_of_two
-    (option_and_then (use_check settings r q) (known_answer settings moment st q))
-    (option_and_then (λ number. check_from databases settings moment st (with_hit st q number r)) (hit_for settings moment st r q)))
+    (option_and_then (use_compares settings r q) (known_answer settings moment tables q))
+    (option_and_then (λ number. compares_from databases settings moment tables (with_hit tables q number r)) (hit_for settings moment tables r q)))
     (question_in (request_stage settings r))
 
 -- the check of the answer that is recorded
-abbrev pub recorded_check : Settings → State → Answer → Option Asked → Option Compared
-recorded_check settings st answer None = None
-recorded_check settings st answer (Some a) =
-    if is_running a && passes_option is_undecided (nth st.requests a.request)
-    then option_and_then (λ r. use_check settings r a.question (recorded_answer a.question.kind answer)) (nth st.requests a.request)
+abbrev pub recorded_compares : Settings → Tables → Answer → Option QueryRow → Option Compared
+recorded_compares settings tables answer None = None
+recorded_compares settings tables answer (Some a) =
+    if is_running a && passes_option is_undecided (nth tables.requests a.request)
+    then option_and_then (λ r. use_compares settings r a.question (recorded_answer a.question.kind answer)) (nth tables.requests a.request)
     else None
 
-abbrev pub own_check : Settings → State → Input → Option Compared
-own_check settings st (Answered query answer) = recorded_check settings st answer (nth st.queries query)
-own_check settings st _ = None
+abbrev pub own_compares : Settings → Tables → Input → Option Compared
+own_compares settings tables (Answered query answer) = recorded_compares settings tables answer (nth tables.queries query)
+own_compares settings tables _ = None
 
-abbrev pub check_after : Settings → ℕ → State → Heard → Option Compared
-check_after settings moment st h =
-    option_and_then (check_from (database_count settings) settings moment st) (option_and_then (nth h.state.requests) h.mover)
+abbrev pub compares_after : Settings → ℕ → Tables → AfterInput → Option Compared
+compares_after settings moment tables h =
+    option_and_then (compares_from (database_count settings) settings moment tables) (option_and_then (nth h.tables.requests) h.continued)
 
 -- the check of an entry: of the answer that it records, else of the newest answers that its mover asks for
-unfoldable pub entry_check : Settings → List Entry → ℕ → Input → Option Compared
-entry_check settings g moment input =
-    let before = with_due_replied settings moment (state settings g) in
-    first_of_two (own_check settings before input) (check_after settings moment (state settings g) (heard settings moment input before))
+unfoldable pub entry_compares : Settings → List Entry → ℕ → Input → Option Compared
+entry_compares settings g moment input =
+    let before = with_due_replied settings moment (tables_of settings g) in
+    first_of_two (own_compares settings before input) (compares_after settings moment (tables_of settings g) (after_input settings moment input before))
 
 -- the check of the entry that an input handed in at m would make, where it isn't refused
 unfoldable pub hint : Settings → List Entry → ℕ → Input → Option Compared
 hint settings h m input =
-    if is_none (refusal settings h (entry_moment h m) input) then entry_check settings h (entry_moment h m) input else None
+    if is_none (refusal settings h (entry_moment h m) input) then entry_compares settings h (entry_moment h m) input else None

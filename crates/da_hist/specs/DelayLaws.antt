@@ -7,15 +7,15 @@ use Rattle.da_hist.specs.declared.settings.Settings.{Settings}
 use Rattle.da_hist.specs.declared.state.Decision.TheVariants.{Failure}
 use Rattle.da_hist.specs.declared.state.Request.{Request}
 use Rattle.da_hist.specs.Requests.{decision, has_nodelay, is_failure}
-use Rattle.da_hist.specs.History.{state}
+use Rattle.da_hist.specs.History.{tables_of}
 use Rattle.da_hist.specs.Effects.{effects, final_replies}
 
 -- a client is told of a failure no sooner than the delay after it was decided, unless an answer asks for no delay
 abbrev pub FailuresWait : Type 0
 FailuresWait =
     (settings : Settings) (e : Entry) (g : List Entry) (n : ℕ) (r : Request) (user : Option Bytes) (authz temp disabled : Bool) (reason : Option Bytes) →
-    list_any (λ m. m == n) (final_replies (effects settings (state settings g) e)) ≡ true →
-    nth (state settings (e ∷ g)).requests n ≡ Some r →
+    list_any (λ m. m == n) (final_replies (effects settings (tables_of settings g) e)) ≡ true →
+    nth (tables_of settings (e ∷ g)).requests n ≡ Some r →
     decision settings r ≡ Some (Failure user authz temp disabled reason) → has_nodelay r.answers ≡ false →
     (decided : ℕ) × (r.decided ≡ Some decided) × (later decided settings.failure_delay ≤ e.moment)
 
@@ -23,13 +23,13 @@ FailuresWait =
 abbrev pub NoneWaitsLonger : Type 0
 NoneWaitsLonger =
     (settings : Settings) (e : Entry) (g : List Entry) (n decided : ℕ) (r : Request) →
-    nth (state settings (e ∷ g)).requests n ≡ Some r → r.decided ≡ Some decided → r.is_cancelled ≡ false →
+    nth (tables_of settings (e ∷ g)).requests n ≡ Some r → r.decided ≡ Some decided → r.is_cancelled ≡ false →
     later decided settings.failure_delay ≤ e.moment → is_some r.replied ≡ true
 
 -- what isn't a failure of a login, or is one whose answer asks for no delay, is replied by the time at which it is decided
 abbrev pub OthersAreToldAtOnce : Type 0
 OthersAreToldAtOnce =
     (settings : Settings) (e : Entry) (g : List Entry) (n decided : ℕ) (r : Request) →
-    nth (state settings (e ∷ g)).requests n ≡ Some r → r.decided ≡ Some decided → r.is_cancelled ≡ false →
+    nth (tables_of settings (e ∷ g)).requests n ≡ Some r → r.decided ≡ Some decided → r.is_cancelled ≡ false →
     (passes_option is_failure (decision settings r) ≡ false) ⊎ (has_nodelay r.answers ≡ true) →
     decided ≤ e.moment → is_some r.replied ≡ true

@@ -6,14 +6,14 @@ use Rattle.da_hist.specs.declared.settings.Goal.{Goal}
 use Rattle.da_hist.specs.declared.settings.Settings.{Settings}
 use Rattle.da_hist.specs.declared.state.Connection.{Connection}
 use Rattle.da_hist.specs.Tables.{is_open_in}
-use Rattle.da_hist.specs.History.{state}
+use Rattle.da_hist.specs.History.{tables_of}
 use Rattle.da_hist.specs.Effects.{wire}
 use Rattle.da_hist.specs.Legal.{is_full, is_over}
 
 -- the bytes to a connection that has ended are all that it gets
 abbrev pub WireIsClosed : Type 0
 WireIsClosed =
-    (settings : Settings) (e : Entry) (g : List Entry) (conn : ℕ) (c : Connection) → nth (state settings g).connections conn ≡ Some c → c.is_open ≡ false →
+    (settings : Settings) (e : Entry) (g : List Entry) (conn : ℕ) (c : Connection) → nth (tables_of settings g).connections conn ≡ Some c → c.is_open ≡ false →
     wire settings (e ∷ g) conn ≡ wire settings g conn
 
 -- a full history is full for ever
@@ -22,4 +22,4 @@ FullStaysFull = (settings : Settings) (e : Entry) (g : List Entry) → is_full s
 
 -- a run that is over has no open connection
 abbrev pub OverIsClosed : Type 0
-OverIsClosed = (settings : Settings) (goal : Option Goal) (h : List Entry) → is_over settings goal h ≡ true → (conn : ℕ) → is_open_in (state settings h) conn ≡ false
+OverIsClosed = (settings : Settings) (goal : Option Goal) (h : List Entry) → is_over settings goal h ≡ true → (conn : ℕ) → is_open_in (tables_of settings h) conn ≡ false

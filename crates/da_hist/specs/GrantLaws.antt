@@ -12,60 +12,60 @@ use Rattle.da_hist.specs.declared.state.Connection.{Connection}
 use Rattle.da_hist.specs.declared.state.Decision.TheVariants.{Success, UserGiven}
 use Rattle.da_hist.specs.declared.state.Grant.{Grant}
 use Rattle.da_hist.specs.declared.state.Request.{Request}
-use Rattle.da_hist.specs.declared.state.State.{State}
+use Rattle.da_hist.specs.declared.state.Tables.{Tables}
 use Rattle.da_hist.specs.Requests.{decision, is_granted_for}
 use Rattle.da_hist.specs.Tables.{is_client}
 use Rattle.da_hist.specs.Grants.{granted, is_used}
-use Rattle.da_hist.specs.History.{state, with_due_replied}
+use Rattle.da_hist.specs.History.{tables_of, with_due_replied}
 
 -- at most one request of a master is granted for one request of a client
 abbrev pub GrantedAtMostOnce : Type 0
-GrantedAtMostOnce = (settings : Settings) (h : List Entry) (n : ℕ) → count_where (λ r. is_granted_for n r.body) (state settings h).requests ≤ 1
+GrantedAtMostOnce = (settings : Settings) (h : List Entry) (n : ℕ) → count_where (λ r. is_granted_for n r.body) (tables_of settings h).requests ≤ 1
 
 -- what a grant stands on: an open client connection of this process number and cookie, and its request of this id, told
 -- OK in time, and neither cancelled nor used
-pub record StandsOn (settings : Settings) (moment : ℕ) (st : State) (pid client : ℕ) (cookie : Bytes) (grant : Grant) : Type 0 where
+pub record StandsOn (settings : Settings) (moment : ℕ) (tables : Tables) (pid client : ℕ) (cookie : Bytes) (grant : Grant) : Type 0 where
   pub conn : ℕ
   pub connection : Connection
-  pub stands : nth st.connections conn ≡ Some connection
+  pub is_there : nth tables.connections conn ≡ Some connection
   pub is_client : is_client connection.kind ≡ true
   pub is_connected : connection.is_open ≡ true
   pub has_pid : connection.pid ≡ Some pid
   pub has_cookie : connection.cookie ≡ cookie
   pub login : Request
-  pub is_made : nth st.requests grant.request ≡ Some login
+  pub is_made : nth tables.requests grant.request ≡ Some login
   pub is_on : login.conn ≡ conn
   pub has_id : login.id ≡ client
   pub replied : ℕ
   pub is_replied : login.replied ≡ Some replied
   pub in_time : moment ≤ later replied 150000
   pub is_not_cancelled : login.is_cancelled ≡ false
-  pub is_unused : is_used st grant.request ≡ false
+  pub is_unused : is_used tables grant.request ≡ false
   pub last : Option Bytes
   pub is_okay : decision settings login ≡ Some (Success grant.lookup.user grant.lookup.passdb_fields last)
 
 abbrev pub GrantsStand : Type 0
 GrantsStand =
-    (settings : Settings) (moment : ℕ) (st : State) (pid client : ℕ) (cookie : Bytes) (grant : Grant) →
-    granted settings moment st pid client cookie ≡ Some grant → StandsOn settings moment st pid client cookie grant
+    (settings : Settings) (moment : ℕ) (tables : Tables) (pid client : ℕ) (cookie : Bytes) (grant : Grant) →
+    granted settings moment tables pid client cookie ≡ Some grant → StandsOn settings moment tables pid client cookie grant
 
 -- an entry was a REQUEST of this id on this connection, and it was granted there
 pub record WasGranted (settings : Settings) (h : List Entry) (conn id : ℕ) (random : Bytes) (grant : Grant) : Type 0 where
   pub newer : List Entry
   pub entry : Entry
   pub older : List Entry
-  pub stands : h ≡ newer ++ entry ∷ older
+  pub is_there : h ≡ newer ++ entry ∷ older
   pub text : Bytes
   pub is_line : entry.input ≡ Line conn text random
   pub pid : ℕ
   pub client : ℕ
   pub cookie : Bytes
   pub spells : master_message text ≡ Some (MasterRequest id pid client cookie)
-  pub is_granted : granted settings entry.moment (with_due_replied settings entry.moment (state settings older)) pid client cookie ≡ Some grant
+  pub is_granted : granted settings entry.moment (with_due_replied settings entry.moment (tables_of settings older)) pid client cookie ≡ Some grant
 
 -- a request that is given a user was granted by the entry that was its own REQUEST
 abbrev pub UserWasGranted : Type 0
 UserWasGranted =
     (settings : Settings) (h : List Entry) (n : ℕ) (r : Request) (user : Bytes) (fields : Pairs) →
-    nth (state settings h).requests n ≡ Some r → decision settings r ≡ Some (UserGiven user fields) →
+    nth (tables_of settings h).requests n ≡ Some r → decision settings r ≡ Some (UserGiven user fields) →
     (grant : Grant) × (r.body ≡ LooksUp (Some grant)) × (grant.lookup.user ≡ user) × WasGranted settings h r.conn r.id r.random grant

@@ -10,26 +10,26 @@ use Rattle.da_hist.specs.declared.input.Entry.{Entry}
 use Rattle.da_hist.specs.declared.input.Input.{Input}
 use Rattle.da_hist.specs.declared.input.Input.TheVariants.{Line, Answered, Late}
 use Rattle.da_hist.specs.declared.settings.Settings.{Settings}
-use Rattle.da_hist.specs.declared.state.Asked.{Asked}
+use Rattle.da_hist.specs.declared.state.QueryRow.{QueryRow}
 use Rattle.da_hist.specs.declared.state.Body.{Body}
 use Rattle.da_hist.specs.declared.state.Body.TheVariants.{Authenticates, LooksUp}
 use Rattle.da_hist.specs.declared.state.Connection.{Connection}
 use Rattle.da_hist.specs.declared.state.Question.{Question}
 use Rattle.da_hist.specs.declared.state.Request.{Request}
 use Rattle.da_hist.specs.Tables.{is_client}
-use Rattle.da_hist.specs.Queries.{is_running, is_kept, recorded_answer, use_test}
-use Rattle.da_hist.specs.Hits.{hit_test}
-use Rattle.da_hist.specs.History.{state, heard, with_due_replied}
+use Rattle.da_hist.specs.Queries.{is_running, is_kept, recorded_answer, use_comparison}
+use Rattle.da_hist.specs.Hits.{hit_comparison}
+use Rattle.da_hist.specs.History.{tables_of, after_input, with_due_replied}
 use Rattle.da_hist.specs.Legal.{IsLegal}
 
 -- ---- the request that an entry moves
 
-abbrev pub mover : Settings → List Entry → Entry → Option ℕ
-mover settings g e = (heard settings e.moment e.input (with_due_replied settings e.moment (state settings g))).mover
+abbrev pub continued : Settings → List Entry → Entry → Option ℕ
+continued settings g e = (after_input settings e.moment e.input (with_due_replied settings e.moment (tables_of settings g))).continued
 
 -- these, where it is request n that moves
 abbrev pub if_moved : {A : Type 0} → Option ℕ → ℕ → List A → List A
-if_moved moved n xs = if passes_option (λ m. m == n) moved then xs else []
+if_moved after_continued n xs = if passes_option (λ m. m == n) after_continued then xs else []
 
 -- ---- texts
 
@@ -43,23 +43,23 @@ continued_text (Some (Cont id text)) = text ∷ []
 continued_text _ = []
 
 -- the texts of the CONT lines that moved request n, in order
-abbrev pub texts_heard : Settings → List Entry → ℕ → List Bytes
-texts_heard settings [] n = []
-texts_heard settings (e ∷ g) n =
-    texts_heard settings g n ++ if_moved (mover settings g e) n (continued_text (message_in (state settings g).connections e.input))
+abbrev pub texts_read : Settings → List Entry → ℕ → List Bytes
+texts_read settings [] n = []
+texts_read settings (e ∷ g) n =
+    texts_read settings g n ++ if_moved (continued settings g e) n (continued_text (message_in (tables_of settings g).connections e.input))
 
 abbrev pub texts_in : Body → List Bytes
 texts_in (Authenticates mech params resp texts) = texts
 texts_in (LooksUp grant) = []
 
 -- the texts of a request are those of the CONT lines that moved it, in order
-abbrev pub TextsAreHeard : Type 0
-TextsAreHeard = (settings : Settings) (h : List Entry) (n : ℕ) (r : Request) → nth (state settings h).requests n ≡ Some r → texts_in r.body ≡ texts_heard settings h n
+abbrev pub TextsAreRead : Type 0
+TextsAreRead = (settings : Settings) (h : List Entry) (n : ℕ) (r : Request) → nth (tables_of settings h).requests n ≡ Some r → texts_in r.body ≡ texts_read settings h n
 
 -- ---- answers
 
 -- the answer of query k, under its database
-abbrev pub answer_under : List Asked → ℕ → Answers
+abbrev pub answer_under : List QueryRow → ℕ → Answers
 answer_under queries k = option_or_else (nth queries k) [] (λ a. option_or_else a.answer [] (λ p. (a.question.db, p.0) ∷ []))
 
 -- the query whose answer an input tells, if it tells one
@@ -69,27 +69,27 @@ told_query (Late k) = Some k
 told_query _ = None
 
 -- the answer of query k after an entry, where it ran before as a query of request n
-abbrev pub own_answer : List Asked → List Asked → ℕ → ℕ → Answers
+abbrev pub own_answer : List QueryRow → List QueryRow → ℕ → ℕ → Answers
 own_answer before after n k = if passes_option (λ a. is_running a && (a.request == n)) (nth before k) then answer_under after k else []
 
 -- the answers of the queries of request n and of the hits of the entries that moved it, in order
-abbrev pub answers_heard : Settings → List Entry → ℕ → Answers
-answers_heard settings [] n = []
-answers_heard settings (e ∷ g) n =
-    answers_heard settings g n
-    ++ option_or_else (told_query e.input) [] (own_answer (state settings g).queries (state settings (e ∷ g)).queries n)
-    ++ if_moved (mover settings g e) n (flat_map (answer_under (state settings g).queries) e.hits)
+abbrev pub answers_read : Settings → List Entry → ℕ → Answers
+answers_read settings [] n = []
+answers_read settings (e ∷ g) n =
+    answers_read settings g n
+    ++ option_or_else (told_query e.input) [] (own_answer (tables_of settings g).queries (tables_of settings (e ∷ g)).queries n)
+    ++ if_moved (continued settings g e) n (flat_map (answer_under (tables_of settings g).queries) e.hits)
 
 -- in a legal history the answers of a request are those of its own queries and of its hits, in order
-abbrev pub AnswersAreHeard : Type 0
-AnswersAreHeard =
-    (settings : Settings) (h : List Entry) → IsLegal settings h → (n : ℕ) (r : Request) → nth (state settings h).requests n ≡ Some r →
-    r.answers ≡ answers_heard settings h n
+abbrev pub AnswersAreRead : Type 0
+AnswersAreRead =
+    (settings : Settings) (h : List Entry) → IsLegal settings h → (n : ℕ) (r : Request) → nth (tables_of settings h).requests n ≡ Some r →
+    r.answers ≡ answers_read settings h n
 
 -- ---- recordings
 
 -- the query that an input answers, where it ran and its answer may be kept
-abbrev pub kept_query : List Asked → Input → List ℕ
+abbrev pub kept_query : List QueryRow → Input → List ℕ
 kept_query queries (Answered k given) =
     option_or_else (nth queries k) [] (λ a. if is_running a && is_kept a.question.kind (recorded_answer a.question.kind given) then (k ∷ []) else [])
 kept_query queries _ = []
@@ -97,57 +97,57 @@ kept_query queries _ = []
 -- the queries that were answered so, the last first
 abbrev pub queries_kept : Settings → List Entry → List ℕ
 queries_kept settings [] = []
-queries_kept settings (e ∷ g) = kept_query (state settings g).queries e.input ++ queries_kept settings g
+queries_kept settings (e ∷ g) = kept_query (tables_of settings g).queries e.input ++ queries_kept settings g
 
 -- the recordings are the queries whose answers may be kept, the last first
-abbrev pub RecordingsAreHeard : Type 0
-RecordingsAreHeard = (settings : Settings) (h : List Entry) → (state settings h).recordings ≡ queries_kept settings h
+abbrev pub CacheableAreRead : Type 0
+CacheableAreRead = (settings : Settings) (h : List Entry) → (tables_of settings h).cacheable ≡ queries_kept settings h
 
 -- ---- what uses of an answer found
 
 -- the request that an entry moves, with what its input told
 abbrev pub moved_request : Settings → List Entry → Entry → Option Request
 moved_request settings g e =
-    option_and_then (nth (heard settings e.moment e.input (with_due_replied settings e.moment (state settings g))).state.requests) (mover settings g e)
+    option_and_then (nth (after_input settings e.moment e.input (with_due_replied settings e.moment (tables_of settings g))).tables.requests) (continued settings g e)
 
 abbrev pub use_by : Settings → Option Request → Question → Answer → Option Bool
 use_by settings None q answer = None
-use_by settings (Some r) q answer = use_test settings r q answer
+use_by settings (Some r) q answer = use_comparison settings r q answer
 
 -- what the own use of a query's answer found, if it checked a password
-abbrev pub own_use : Settings → List Request → Option Asked → List Bool
+abbrev pub own_use : Settings → List Request → Option QueryRow → List Bool
 own_use settings requests None = []
 own_use settings requests (Some a) = option_or_else a.answer [] (λ p. option_to_list (use_by settings (nth requests a.request) a.question p.0))
 
 -- the same of query k, where an input tells the answer of query j, which ran before
-abbrev pub own_tests : Settings → List Request → List Asked → List Asked → ℕ → ℕ → List Bool
+abbrev pub own_tests : Settings → List Request → List QueryRow → List QueryRow → ℕ → ℕ → List Bool
 own_tests settings requests before after k j = if passes_option is_running (nth before j) && (j == k) then own_use settings requests (nth after j) else []
 
 -- the request with the answers of one hit more
-abbrev pub with_one_hit : List Asked → Request → ℕ → Request
+abbrev pub with_one_hit : List QueryRow → Request → ℕ → Request
 with_one_hit queries r n = record r { answers = r.answers ++ answer_under queries n }
 
 -- what the request's use of a hit found, if it checked a password
-abbrev pub hit_use : Settings → Request → Option Asked → List Bool
+abbrev pub hit_use : Settings → Request → Option QueryRow → List Bool
 hit_use settings r None = []
-hit_use settings r (Some a) = option_or_else a.answer [] (λ p. option_to_list (hit_test settings p.0 (Some r)))
+hit_use settings r (Some a) = option_or_else a.answer [] (λ p. option_to_list (hit_comparison settings p.0 (Some r)))
 
 -- what the uses of query k among these hits found, the last first
-abbrev pub hit_tests : Settings → List Asked → Request → List ℕ → ℕ → List Bool
+abbrev pub hit_tests : Settings → List QueryRow → Request → List ℕ → ℕ → List Bool
 hit_tests settings queries r [] k = []
 hit_tests settings queries r (n ∷ ns) k =
     hit_tests settings queries (with_one_hit queries r n) ns k ++ (if n == k then hit_use settings r (nth queries n) else [])
 
 -- what the uses of the answer of query k found, the last first: its own, and those of the hits
-abbrev pub uses_heard : Settings → List Entry → ℕ → List Bool
-uses_heard settings [] k = []
-uses_heard settings (e ∷ g) k =
-    option_or_else (moved_request settings g e) [] (λ r. hit_tests settings (state settings g).queries r e.hits k)
-    ++ (option_or_else (told_query e.input) [] (own_tests settings (with_due_replied settings e.moment (state settings g)).requests (state settings g).queries (state settings (e ∷ g)).queries k)
-    ++ uses_heard settings g k)
+abbrev pub uses_read : Settings → List Entry → ℕ → List Bool
+uses_read settings [] k = []
+uses_read settings (e ∷ g) k =
+    option_or_else (moved_request settings g e) [] (λ r. hit_tests settings (tables_of settings g).queries r e.hits k)
+    ++ (option_or_else (told_query e.input) [] (own_tests settings (with_due_replied settings e.moment (tables_of settings g)).requests (tables_of settings g).queries (tables_of settings (e ∷ g)).queries k)
+    ++ uses_read settings g k)
 
 -- in a legal history the tests of an answer are those of its own use and of the hits, the last first
-abbrev pub TestsAreHeard : Type 0
-TestsAreHeard =
-    (settings : Settings) (h : List Entry) → IsLegal settings h → (k : ℕ) (a : Asked) → nth (state settings h).queries k ≡ Some a →
-    a.tests ≡ uses_heard settings h k
+abbrev pub ComparisonsAreRead : Type 0
+ComparisonsAreRead =
+    (settings : Settings) (h : List Entry) → IsLegal settings h → (k : ℕ) (a : QueryRow) → nth (tables_of settings h).queries k ≡ Some a →
+    a.comparisons ≡ uses_read settings h k

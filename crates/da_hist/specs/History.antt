@@ -8,15 +8,15 @@ use Rattle.da_hist.specs.declared.input.Entry.{Entry}
 use Rattle.da_hist.specs.declared.input.Input.{Input}
 use Rattle.da_hist.specs.declared.input.Input.TheVariants.{Opened, Line, Broken, Gone, Take, Answered, Late, Tick}
 use Rattle.da_hist.specs.declared.settings.Settings.{Settings}
-use Rattle.da_hist.specs.declared.state.Asked.{Asked}
+use Rattle.da_hist.specs.declared.state.QueryRow.{QueryRow}
 use Rattle.da_hist.specs.declared.state.Request.{Request}
 use Rattle.da_hist.specs.declared.state.Stage.{Stage}
 use Rattle.da_hist.specs.declared.state.Stage.TheVariants.{Awaits, Asks, Decided}
-use Rattle.da_hist.specs.declared.state.State.{State}
+use Rattle.da_hist.specs.declared.state.Tables.{Tables}
 use Rattle.da_hist.specs.Requests.{request_stage, is_due}
-use Rattle.da_hist.specs.Tables.{Heard, at_start, with_request, with_query, with_end, moving_none, closing}
-use Rattle.da_hist.specs.LinesHeard.{line_on}
-use Rattle.da_hist.specs.Queries.{first_waiting, is_running_in, records, recorded_answer, kept_in, with_new_query}
+use Rattle.da_hist.specs.Tables.{AfterInput, at_start, with_request, with_query, with_end, continuing_none, closing}
+use Rattle.da_hist.specs.Lines.{line_on}
+use Rattle.da_hist.specs.Queries.{first_waiting, is_running_in, after_answer, recorded_answer, kept_in, with_new_query}
 use Rattle.da_hist.specs.Hits.{after_hits}
 
 -- ---- part one of an entry: the replies that are due are given
@@ -27,24 +27,24 @@ replied moment r = record r { replied = Some moment }
 abbrev pub replied_if_due : Settings → ℕ → Request → Request
 replied_if_due settings moment r = if is_due settings moment r then replied moment r else r
 
-unfoldable pub with_due_replied : Settings → ℕ → State → State
-with_due_replied settings moment st = record st { requests = map (replied_if_due settings moment) st.requests }
+unfoldable pub with_due_replied : Settings → ℕ → Tables → Tables
+with_due_replied settings moment tables = record tables { requests = map (replied_if_due settings moment) tables.requests }
 
 -- ---- part two: the input has its own effect
 
-abbrev pub taken : ℕ → Asked → Asked
-taken moment a = record a { taken = Some moment }
+abbrev pub as_taken : ℕ → QueryRow → QueryRow
+as_taken moment a = record a { taken = Some moment }
 
-unfoldable pub heard : Settings → ℕ → Input → State → Heard
-heard settings moment (Opened kind random) st =
-    moving_none (record st { connections = st.connections ++ record { kind = kind; cookie = hex random; has_version = false; pid = None; is_open = true } ∷ [] })
-heard settings moment (Line conn text random) st = line_on settings moment conn text random (nth st.connections conn) st
-heard settings moment (Broken conn) st = closing conn st
-heard settings moment (Gone conn) st = moving_none (with_end conn st)
-heard settings moment Take st = moving_none (with_query (taken moment) (first_waiting st) st)
-heard settings moment (Answered query answer) st = records settings moment query answer (nth st.queries query) st
-heard settings moment (Late query) st = records settings moment query (Internal WasLate) (nth st.queries query) st
-heard settings moment Tick st = moving_none st
+unfoldable pub after_input : Settings → ℕ → Input → Tables → AfterInput
+after_input settings moment (Opened kind random) tables =
+    continuing_none (record tables { connections = tables.connections ++ record { kind = kind; cookie = hex random; has_version = false; pid = None; is_open = true } ∷ [] })
+after_input settings moment (Line conn text random) tables = line_on settings moment conn text random (nth tables.connections conn) tables
+after_input settings moment (Broken conn) tables = closing conn tables
+after_input settings moment (Gone conn) tables = continuing_none (with_end conn tables)
+after_input settings moment Take tables = continuing_none (with_query (as_taken moment) (first_waiting tables) tables)
+after_input settings moment (Answered query answer) tables = after_answer settings moment query answer (nth tables.queries query) tables
+after_input settings moment (Late query) tables = after_answer settings moment query (Internal WasLate) (nth tables.queries query) tables
+after_input settings moment Tick tables = continuing_none tables
 
 -- ---- part three: what follows for the request that was moved, after its hits
 
@@ -53,46 +53,46 @@ abbrev pub with_decision : Settings → ℕ → Request → Request
 with_decision settings moment r = replied_if_due settings moment (record r { decided = Some moment })
 
 -- it asks by a query, or is decided, or awaits a message
-abbrev pub follows_from : Settings → ℕ → ℕ → Request → Stage → State → State
-follows_from settings moment number r (Awaits text) st = st
-follows_from settings moment number r (Asks q) st = with_new_query settings number r q st
-follows_from settings moment number r (Decided d) st = with_request (with_decision settings moment) number st
+abbrev pub follows_from : Settings → ℕ → ℕ → Request → Stage → Tables → Tables
+follows_from settings moment number r (Awaits text) tables = tables
+follows_from settings moment number r (Asks q) tables = with_new_query settings number r q tables
+follows_from settings moment number r (Decided d) tables = with_request (with_decision settings moment) number tables
 
-abbrev pub follows_for : Settings → ℕ → ℕ → Option Request → State → State
-follows_for settings moment number None st = st
-follows_for settings moment number (Some r) st = follows_from settings moment number r (request_stage settings r) st
+abbrev pub follows_for : Settings → ℕ → ℕ → Option Request → Tables → Tables
+follows_for settings moment number None tables = tables
+follows_for settings moment number (Some r) tables = follows_from settings moment number r (request_stage settings r) tables
 
 -- by the stage that the request has after its hits
-unfoldable pub settled : Settings → ℕ → ℕ → State → State
-settled settings moment number st = follows_for settings moment number (nth st.requests number) st
+unfoldable pub after_stage : Settings → ℕ → ℕ → Tables → Tables
+after_stage settings moment number tables = follows_for settings moment number (nth tables.requests number) tables
 
-abbrev pub moved : Settings → ℕ → List ℕ → Heard → State
-moved settings moment hits h = option_or_else h.mover h.state (λ number. settled settings moment number (after_hits settings number h.state hits))
+abbrev pub after_continued : Settings → ℕ → List ℕ → AfterInput → Tables
+after_continued settings moment hits h = option_or_else h.continued h.tables (λ number. after_stage settings moment number (after_hits settings number h.tables hits))
 
 -- ---- last, the answer of the entry is kept, after the hits
 
-abbrev pub kept_for : Settings → ℕ → Answer → Option Asked → State → State
-kept_for settings query answer None st = st
-kept_for settings query answer (Some a) st = kept_in settings query a.question (recorded_answer a.question.kind answer) st
+abbrev pub kept_for : Settings → ℕ → Answer → Option QueryRow → Tables → Tables
+kept_for settings query answer None tables = tables
+kept_for settings query answer (Some a) tables = kept_in settings query a.question (recorded_answer a.question.kind answer) tables
 
-abbrev pub keeps : Settings → State → Input → State → State
-keeps settings before (Answered query answer) st = if is_running_in before query then kept_for settings query answer (nth st.queries query) st else st
-keeps settings before _ st = st
+abbrev pub keeps : Settings → Tables → Input → Tables → Tables
+keeps settings before (Answered query answer) tables = if is_running_in before query then kept_for settings query answer (nth tables.queries query) tables else tables
+keeps settings before _ tables = tables
 
 -- whether an input records an answer
-abbrev pub is_recorded : State → Input → Bool
-is_recorded before (Answered query answer) = is_running_in before query
-is_recorded before _ = false
+abbrev pub is_answer_recorded : Tables → Input → Bool
+is_answer_recorded before (Answered query answer) = is_running_in before query
+is_answer_recorded before _ = false
 
 -- ---- the state
 
 -- the state after one more entry
-unfoldable pub after : Settings → State → Entry → State
-after settings st e =
-    let before = with_due_replied settings e.moment st in
-    keeps settings before e.input (moved settings e.moment e.hits (heard settings e.moment e.input before))
+unfoldable pub after : Settings → Tables → Entry → Tables
+after settings tables e =
+    let before = with_due_replied settings e.moment tables in
+    keeps settings before e.input (after_continued settings e.moment e.hits (after_input settings e.moment e.input before))
 
 -- the state at the end of a history
-abbrev pub state : Settings → List Entry → State
-state settings [] = at_start
-state settings (e ∷ g) = after settings (state settings g) e
+abbrev pub tables_of : Settings → List Entry → Tables
+tables_of settings [] = at_start
+tables_of settings (e ∷ g) = after settings (tables_of settings g) e

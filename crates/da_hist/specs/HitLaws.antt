@@ -6,42 +6,42 @@ use Rattle.da_keys.specs.declared.key.Key.{Key}
 use Rattle.da_fields.specs.declared.answer.Answer.{Answer}
 use Rattle.da_hist.specs.declared.input.Entry.{Entry}
 use Rattle.da_hist.specs.declared.settings.Settings.{Settings}
-use Rattle.da_hist.specs.declared.state.Asked.{Asked}
+use Rattle.da_hist.specs.declared.state.QueryRow.{QueryRow}
 use Rattle.da_hist.specs.declared.state.Request.{Request}
-use Rattle.da_hist.specs.declared.state.State.{State}
-use Rattle.da_hist.specs.Queries.{life}
+use Rattle.da_hist.specs.declared.state.Tables.{Tables}
+use Rattle.da_hist.specs.Queries.{ttl_of}
 use Rattle.da_hist.specs.Hits.{AreHits, hits_from, database_count, newest}
-use Rattle.da_hist.specs.History.{state}
+use Rattle.da_hist.specs.History.{tables_of}
 use Rattle.da_hist.specs.Legal.{IsLegal}
 
 -- there is at most one list of hits
 abbrev pub HitsAreUnique : Type 0
 HitsAreUnique =
-    (settings : Settings) (moment : ℕ) (st : State) (r : Request) (ms ns : List ℕ) →
-    AreHits settings moment st r ms → AreHits settings moment st r ns → ms ≡ ns
+    (settings : Settings) (moment : ℕ) (tables : Tables) (r : Request) (ms ns : List ℕ) →
+    AreHits settings moment tables r ms → AreHits settings moment tables r ns → ms ≡ ns
 
 -- the hits that the server makes are the hits
 abbrev pub HitsAreHits : Type 0
 HitsAreHits =
-    (settings : Settings) (moment : ℕ) (st : State) (r : Request) →
-    AreHits settings moment st r (hits_from (database_count settings) settings moment st r)
+    (settings : Settings) (moment : ℕ) (tables : Tables) (r : Request) →
+    AreHits settings moment tables r (hits_from (database_count settings) settings moment tables r)
 
 -- the newest answer of a key is there, and its life isn't 0
-pub record HasAnswer (settings : Settings) (st : State) (k : Key) : Type 0 where
+pub record HasAnswer (settings : Settings) (tables : Tables) (k : Key) : Type 0 where
   pub number : ℕ
-  pub is_newest : newest st k ≡ Some number
-  pub query : Asked
-  pub stands : nth st.queries number ≡ Some query
+  pub is_newest : newest tables k ≡ Some number
+  pub query : QueryRow
+  pub is_there : nth tables.queries number ≡ Some query
   pub answer : Answer
   pub moment : ℕ
-  pub is_recorded : query.answer ≡ Some (answer, moment)
-  pub lives : 0 < life settings answer
+  pub is_answer_recorded : query.answer ≡ Some (answer, moment)
+  pub has_ttl : 0 < ttl_of settings answer
 
 -- the keys fit the cache, no key is there twice, and each has an answer that may be repeated for some time
-pub record KeysAreFit (settings : Settings) (st : State) : Type 0 where
-  pub fit : length st.keys ≤ settings.cache_size
-  pub are_distinct : (k : Key) → count_where (same_key k) st.keys ≤ 1
-  pub have_answers : (k : Key) → has_key k st.keys ≡ true → HasAnswer settings st k
+pub record KeysAreFit (settings : Settings) (tables : Tables) : Type 0 where
+  pub fit : length tables.keys ≤ settings.cache_size
+  pub are_distinct : (k : Key) → count_where (same_key k) tables.keys ≤ 1
+  pub have_answers : (k : Key) → has_key k tables.keys ≡ true → HasAnswer settings tables k
 
 abbrev pub KeysFit : Type 0
-KeysFit = (settings : Settings) (h : List Entry) → IsLegal settings h → KeysAreFit settings (state settings h)
+KeysFit = (settings : Settings) (h : List Entry) → IsLegal settings h → KeysAreFit settings (tables_of settings h)

@@ -12,11 +12,11 @@ use Rattle.da_hist.specs.declared.settings.Goal.{Goal}
 use Rattle.da_hist.specs.declared.settings.Settings.{Settings}
 use Rattle.da_hist.specs.declared.state.Connection.{Connection}
 use Rattle.da_hist.specs.declared.state.Request.{Request}
-use Rattle.da_hist.specs.declared.state.State.{State}
+use Rattle.da_hist.specs.declared.state.Tables.{Tables}
 use Rattle.da_hist.specs.Tables.{is_client, is_open_in}
 use Rattle.da_hist.specs.Queries.{first_waiting, is_running_in}
 use Rattle.da_hist.specs.Hits.{AreHits}
-use Rattle.da_hist.specs.History.{state, heard, with_due_replied}
+use Rattle.da_hist.specs.History.{tables_of, after_input, with_due_replied}
 use Rattle.da_hist.specs.Effects.{entry_lines}
 
 -- ---- ends of a run
@@ -53,7 +53,7 @@ has_met goal connections =
 
 -- a goal was given, and is met
 abbrev pub is_over : Settings → Option Goal → List Entry → Bool
-is_over settings goal h = passes_option (λ g. has_met g (state settings h).connections) goal
+is_over settings goal h = passes_option (λ g. has_met g (tables_of settings h).connections) goal
 
 -- ---- moments
 
@@ -67,40 +67,40 @@ entry_moment h m = max m (last_moment h)
 
 -- ---- legal histories
 
-abbrev pub open_count : State → ℕ
-open_count st = count_where (λ c. c.is_open) st.connections
+abbrev pub open_count : Tables → ℕ
+open_count tables = count_where (λ c. c.is_open) tables.connections
 
 -- the moment from which a query is late
-abbrev pub late_from : Settings → State → ℕ → Option ℕ
-late_from settings st query = option_and_then (λ a. option_map (λ taken. later taken settings.query_limit) a.taken) (nth st.queries query)
+abbrev pub late_from : Settings → Tables → ℕ → Option ℕ
+late_from settings tables query = option_and_then (λ a. option_map (λ taken. later taken settings.query_limit) a.taken) (nth tables.queries query)
 
 -- whether an input may be an entry after this state, at this moment
-abbrev pub is_allowed : Settings → State → ℕ → Input → Bool
-is_allowed settings st moment (Opened kind random) = nat_lt (open_count st) settings.connections
-is_allowed settings st moment (Line conn text random) = is_open_in st conn
-is_allowed settings st moment (Broken conn) = is_open_in st conn
-is_allowed settings st moment (Gone conn) = is_open_in st conn
-is_allowed settings st moment Take = nat_lt 0 (first_waiting st)
-is_allowed settings st moment (Answered query answer) = is_running_in st query
-is_allowed settings st moment (Late query) = is_running_in st query && passes_option (λ late. nat_le late moment) (late_from settings st query)
-is_allowed settings st moment Tick = true
+abbrev pub is_allowed : Settings → Tables → ℕ → Input → Bool
+is_allowed settings tables moment (Opened kind random) = nat_lt (open_count tables) settings.connections
+is_allowed settings tables moment (Line conn text random) = is_open_in tables conn
+is_allowed settings tables moment (Broken conn) = is_open_in tables conn
+is_allowed settings tables moment (Gone conn) = is_open_in tables conn
+is_allowed settings tables moment Take = nat_lt 0 (first_waiting tables)
+is_allowed settings tables moment (Answered query answer) = is_running_in tables query
+is_allowed settings tables moment (Late query) = is_running_in tables query && passes_option (λ late. nat_le late moment) (late_from settings tables query)
+is_allowed settings tables moment Tick = true
 
 -- an entry that moves no request has no hits
-abbrev pub MoverHits : Settings → ℕ → State → Option Request → List ℕ → Type 0
-MoverHits settings moment st None ns = ns ≡ []
-MoverHits settings moment st (Some r) ns = AreHits settings moment st r ns
+abbrev pub ContinuedHits : Settings → ℕ → Tables → Option Request → List ℕ → Type 0
+ContinuedHits settings moment tables None ns = ns ≡ []
+ContinuedHits settings moment tables (Some r) ns = AreHits settings moment tables r ns
 
 -- these are the hits of an entry after a history: those of the request that its input moves
 abbrev pub EntryHits : Settings → List Entry → ℕ → Input → List ℕ → Type 0
 EntryHits settings g moment input ns =
-    let h = heard settings moment input (with_due_replied settings moment (state settings g)) in
-    MoverHits settings moment (state settings g) (option_and_then (nth h.state.requests) h.mover) ns
+    let h = after_input settings moment input (with_due_replied settings moment (tables_of settings g)) in
+    ContinuedHits settings moment (tables_of settings g) (option_and_then (nth h.tables.requests) h.continued) ns
 
 -- the entry may follow this history
 pub record IsNext (settings : Settings) (g : List Entry) (e : Entry) : Type 0 where
   pub later_or_same : last_moment g ≤ e.moment
   pub has_room : IsFalse (is_full settings g)
-  pub is_allowed : IsTrue (is_allowed settings (state settings g) e.moment e.input)
+  pub is_allowed : IsTrue (is_allowed settings (tables_of settings g) e.moment e.input)
   pub hits : EntryHits settings g e.moment e.input e.hits
 
 -- each entry may follow those before it

@@ -7,16 +7,16 @@ use Rattle.da_msgs.specs.declared.client.ClientMsg.{ClientMsg}
 use Rattle.da_msgs.specs.declared.client.ClientMsg.TheVariants.{Version, Pid, Auth, Cont, Cancel, Other}
 use Rattle.da_msgs.specs.declared.master.MasterMsg.{MasterMsg}
 use Rattle.da_msgs.specs.declared.master.MasterMsg.TheVariants.{Version as MasterVersion, Request as MasterRequest, Other as MasterOther}
-use Rattle.da_hist.specs.declared.heard.Obeyed.{Obeyed}
-use Rattle.da_hist.specs.declared.heard.Obeyed.TheVariants.{Nothing, Closes, Client as ClientMessage, Master as MasterMessage}
+use Rattle.da_hist.specs.declared.lines.LineMeaning.{LineMeaning}
+use Rattle.da_hist.specs.declared.lines.LineMeaning.TheVariants.{Nothing, Closes, Client as ClientMessage, Master as MasterMessage}
 use Rattle.da_hist.specs.declared.settings.Settings.{Settings}
 use Rattle.da_hist.specs.declared.state.Body.{Body}
 use Rattle.da_hist.specs.declared.state.Body.TheVariants.{Authenticates, LooksUp}
 use Rattle.da_hist.specs.declared.state.Connection.{Connection}
 use Rattle.da_hist.specs.declared.state.Request.{Request}
-use Rattle.da_hist.specs.declared.state.State.{State}
+use Rattle.da_hist.specs.declared.state.Tables.{Tables}
 use Rattle.da_hist.specs.Requests.{request_stage, challenge_in, decision, is_login_success, is_pending, is_undecided}
-use Rattle.da_hist.specs.Tables.{Heard, with_connection, with_request, is_client, cancelled, moving_none, moving, moving_new, closing}
+use Rattle.da_hist.specs.Tables.{AfterInput, with_connection, with_request, is_client, cancelled, continuing_none, continuing, continuing_new, closing}
 use Rattle.da_hist.specs.Connections.{request_number, client_may, master_may}
 use Rattle.da_hist.specs.Grants.{granted, is_used}
 
@@ -24,8 +24,8 @@ abbrev pub new_request : ℕ → ℕ → ℕ → Bytes → Body → Request
 new_request moment conn id random body =
     record { conn = conn; id = id; random = random; start = moment; body = body; answers = []; is_cancelled = false; decided = None; replied = None }
 
-abbrev pub versioned : Connection → Connection
-versioned c = record c { has_version = true }
+abbrev pub with_version : Connection → Connection
+with_version c = record c { has_version = true }
 
 abbrev pub with_pid : ℕ → Connection → Connection
 with_pid pid c = record c { pid = Some pid }
@@ -44,71 +44,71 @@ abbrev pub is_awaiting : Settings → Request → Bool
 is_awaiting settings r = is_undecided r && is_some (challenge_in (request_stage settings r))
 
 -- a message is that of a request that awaits one, and is ignored elsewhere
-abbrev pub continues : Settings → ℕ → Bytes → State → Heard
-continues settings number text st =
-    if passes_option (is_awaiting settings) (nth st.requests number)
-    then moving number (with_request (with_text text) number st)
-    else moving_none st
+abbrev pub continues : Settings → ℕ → Bytes → Tables → AfterInput
+continues settings number text tables =
+    if passes_option (is_awaiting settings) (nth tables.requests number)
+    then continuing number (with_request (with_text text) number tables)
+    else continuing_none tables
 
 -- ---- cancels
 
 -- the request is open, or authenticated and unused
-abbrev pub is_cancellable : Settings → State → ℕ → Request → Bool
-is_cancellable settings st number r =
-    is_pending r || (not r.is_cancelled && passes_option is_login_success (decision settings r) && not (is_used st number))
+abbrev pub is_cancellable : Settings → Tables → ℕ → Request → Bool
+is_cancellable settings tables number r =
+    is_pending r || (not r.is_cancelled && passes_option is_login_success (decision settings r) && not (is_used tables number))
 
-abbrev pub cancels : Settings → ℕ → State → Heard
-cancels settings number st =
-    if passes_option (is_cancellable settings st number) (nth st.requests number)
-    then moving_none (with_request cancelled number st)
-    else moving_none st
+abbrev pub cancels : Settings → ℕ → Tables → AfterInput
+cancels settings number tables =
+    if passes_option (is_cancellable settings tables number) (nth tables.requests number)
+    then continuing_none (with_request cancelled number tables)
+    else continuing_none tables
 
 -- ---- lines of clients
 
-abbrev pub obeys : Settings → ℕ → ℕ → Bytes → ClientMsg → State → Heard
-obeys settings moment conn random (Version major minor) st = moving_none (with_connection versioned conn st)
-obeys settings moment conn random (Pid pid) st = moving_none (with_connection (with_pid pid) conn st)
-obeys settings moment conn random (Auth id mech params resp) st =
-    moving_new (new_request moment conn id random (Authenticates mech params resp [])) st
-obeys settings moment conn random (Cont id text) st = continues settings (request_number st conn id) text st
-obeys settings moment conn random (Cancel id) st = cancels settings (request_number st conn id) st
-obeys settings moment conn random Other st = moving_none st
+abbrev pub after_client_message : Settings → ℕ → ℕ → Bytes → ClientMsg → Tables → AfterInput
+after_client_message settings moment conn random (Version major minor) tables = continuing_none (with_connection with_version conn tables)
+after_client_message settings moment conn random (Pid pid) tables = continuing_none (with_connection (with_pid pid) conn tables)
+after_client_message settings moment conn random (Auth id mech params resp) tables =
+    continuing_new (new_request moment conn id random (Authenticates mech params resp [])) tables
+after_client_message settings moment conn random (Cont id text) tables = continues settings (request_number tables conn id) text tables
+after_client_message settings moment conn random (Cancel id) tables = cancels settings (request_number tables conn id) tables
+after_client_message settings moment conn random Other tables = continuing_none tables
 
 -- a line that spells no message, or one that may not stand there, closes its connection
-abbrev pub client_line : Settings → ℕ → ℕ → Bytes → Connection → Option ClientMsg → State → Heard
-client_line settings moment conn random c None st = closing conn st
-client_line settings moment conn random c (Some message) st =
-    if client_may st conn c message then obeys settings moment conn random message st else closing conn st
+abbrev pub client_line : Settings → ℕ → ℕ → Bytes → Connection → Option ClientMsg → Tables → AfterInput
+client_line settings moment conn random c None tables = closing conn tables
+client_line settings moment conn random c (Some message) tables =
+    if client_may tables conn c message then after_client_message settings moment conn random message tables else closing conn tables
 
 -- ---- lines of masters
 
-abbrev pub obeys_master : Settings → ℕ → ℕ → Bytes → MasterMsg → State → Heard
-obeys_master settings moment conn random (MasterVersion major minor) st = moving_none (with_connection versioned conn st)
-obeys_master settings moment conn random (MasterRequest id pid client cookie) st =
-    moving_new (new_request moment conn id random (LooksUp (granted settings moment st pid client cookie))) st
-obeys_master settings moment conn random MasterOther st = moving_none st
+abbrev pub after_master_message : Settings → ℕ → ℕ → Bytes → MasterMsg → Tables → AfterInput
+after_master_message settings moment conn random (MasterVersion major minor) tables = continuing_none (with_connection with_version conn tables)
+after_master_message settings moment conn random (MasterRequest id pid client cookie) tables =
+    continuing_new (new_request moment conn id random (LooksUp (granted settings moment tables pid client cookie))) tables
+after_master_message settings moment conn random MasterOther tables = continuing_none tables
 
-abbrev pub master_line : Settings → ℕ → ℕ → Bytes → Connection → Option MasterMsg → State → Heard
-master_line settings moment conn random c None st = closing conn st
-master_line settings moment conn random c (Some message) st =
-    if master_may st conn c message then obeys_master settings moment conn random message st else closing conn st
+abbrev pub master_line : Settings → ℕ → ℕ → Bytes → Connection → Option MasterMsg → Tables → AfterInput
+master_line settings moment conn random c None tables = closing conn tables
+master_line settings moment conn random c (Some message) tables =
+    if master_may tables conn c message then after_master_message settings moment conn random message tables else closing conn tables
 
 -- ---- a line
 
-abbrev pub line_by : Settings → ℕ → ℕ → Bytes → Bytes → Connection → State → Heard
-line_by settings moment conn text random c st =
+abbrev pub line_by : Settings → ℕ → ℕ → Bytes → Bytes → Connection → Tables → AfterInput
+line_by settings moment conn text random c tables =
     if is_client c.kind
-    then client_line settings moment conn random c (client_message text) st
-    else master_line settings moment conn random c (master_message text) st
+    then client_line settings moment conn random c (client_message text) tables
+    else master_line settings moment conn random c (master_message text) tables
 
-abbrev pub line_on : Settings → ℕ → ℕ → Bytes → Bytes → Option Connection → State → Heard
-line_on settings moment conn text random None st = moving_none st
-line_on settings moment conn text random (Some c) st =
-    if c.is_open then line_by settings moment conn text random c st else moving_none st
+abbrev pub line_on : Settings → ℕ → ℕ → Bytes → Bytes → Option Connection → Tables → AfterInput
+line_on settings moment conn text random None tables = continuing_none tables
+line_on settings moment conn text random (Some c) tables =
+    if c.is_open then line_by settings moment conn text random c tables else continuing_none tables
 
 -- what a line does, once it is known what that is
-abbrev pub obeyed : Settings → ℕ → ℕ → Bytes → Obeyed → State → Heard
-obeyed settings moment conn random Nothing st = moving_none st
-obeyed settings moment conn random Closes st = closing conn st
-obeyed settings moment conn random (ClientMessage message) st = obeys settings moment conn random message st
-obeyed settings moment conn random (MasterMessage message) st = obeys_master settings moment conn random message st
+abbrev pub after_meaning : Settings → ℕ → ℕ → Bytes → LineMeaning → Tables → AfterInput
+after_meaning settings moment conn random Nothing tables = continuing_none tables
+after_meaning settings moment conn random Closes tables = closing conn tables
+after_meaning settings moment conn random (ClientMessage message) tables = after_client_message settings moment conn random message tables
+after_meaning settings moment conn random (MasterMessage message) tables = after_master_message settings moment conn random message tables

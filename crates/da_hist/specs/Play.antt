@@ -8,11 +8,11 @@ use Rattle.da_hist.specs.declared.outputs.Outputs.{Outputs}
 use Rattle.da_hist.specs.declared.outputs.Refused.{Refused}
 use Rattle.da_hist.specs.declared.outputs.Refused.TheVariants.{HistoryFull, ConnLimit, NoConn, NothingWaits, NotTaken, NotLate}
 use Rattle.da_hist.specs.declared.settings.Settings.{Settings}
-use Rattle.da_hist.specs.declared.state.State.{State}
-use Rattle.da_hist.specs.Tables.{Heard, is_open_in}
+use Rattle.da_hist.specs.declared.state.Tables.{Tables}
+use Rattle.da_hist.specs.Tables.{AfterInput, is_open_in}
 use Rattle.da_hist.specs.Queries.{first_waiting, is_running_in, query_with}
 use Rattle.da_hist.specs.Hits.{hits_from, database_count}
-use Rattle.da_hist.specs.History.{state, after, heard, with_due_replied}
+use Rattle.da_hist.specs.History.{tables_of, after, after_input, with_due_replied}
 use Rattle.da_hist.specs.declared.effects.Effects.{Effects}
 use Rattle.da_hist.specs.Effects.{effects, due_lines, own_lines}
 use Rattle.da_hist.specs.Legal.{is_full, entry_moment, open_count, late_from}
@@ -26,30 +26,30 @@ abbrev pub late_refusal : ℕ → ℕ → Option ℕ → Option Refused
 late_refusal moment query None = None
 late_refusal moment query (Some due) = unless (nat_le due moment) (NotLate query due)
 
-abbrev pub input_refusal : Settings → State → ℕ → Input → Option Refused
-input_refusal settings st moment (Opened kind random) = unless (nat_lt (open_count st) settings.connections) (ConnLimit (open_count st))
-input_refusal settings st moment (Line conn text random) = unless (is_open_in st conn) (NoConn conn)
-input_refusal settings st moment (Broken conn) = unless (is_open_in st conn) (NoConn conn)
-input_refusal settings st moment (Gone conn) = unless (is_open_in st conn) (NoConn conn)
-input_refusal settings st moment Take = unless (nat_lt 0 (first_waiting st)) NothingWaits
-input_refusal settings st moment (Answered query answer) = unless (is_running_in st query) (NotTaken query)
-input_refusal settings st moment (Late query) =
-    if is_running_in st query then late_refusal moment query (late_from settings st query) else Some (NotTaken query)
-input_refusal settings st moment Tick = None
+abbrev pub input_refusal : Settings → Tables → ℕ → Input → Option Refused
+input_refusal settings tables moment (Opened kind random) = unless (nat_lt (open_count tables) settings.connections) (ConnLimit (open_count tables))
+input_refusal settings tables moment (Line conn text random) = unless (is_open_in tables conn) (NoConn conn)
+input_refusal settings tables moment (Broken conn) = unless (is_open_in tables conn) (NoConn conn)
+input_refusal settings tables moment (Gone conn) = unless (is_open_in tables conn) (NoConn conn)
+input_refusal settings tables moment Take = unless (nat_lt 0 (first_waiting tables)) NothingWaits
+input_refusal settings tables moment (Answered query answer) = unless (is_running_in tables query) (NotTaken query)
+input_refusal settings tables moment (Late query) =
+    if is_running_in tables query then late_refusal moment query (late_from settings tables query) else Some (NotTaken query)
+input_refusal settings tables moment Tick = None
 
 -- the first refusal that applies: a full history comes before all others
 unfoldable pub refusal : Settings → List Entry → ℕ → Input → Option Refused
-refusal settings h moment input = if is_full settings h then Some HistoryFull else input_refusal settings (state settings h) moment input
+refusal settings h moment input = if is_full settings h then Some HistoryFull else input_refusal settings (tables_of settings h) moment input
 
 -- ---- the entry that an input makes
 
-abbrev pub hits_for : Settings → ℕ → State → Heard → List ℕ
-hits_for settings moment st h =
-    option_or_else (option_and_then (λ number. nth h.state.requests number) h.mover) [] (hits_from (database_count settings) settings moment st)
+abbrev pub hits_for : Settings → ℕ → Tables → AfterInput → List ℕ
+hits_for settings moment tables h =
+    option_or_else (option_and_then (λ number. nth h.tables.requests number) h.continued) [] (hits_from (database_count settings) settings moment tables)
 
 -- the hits of an entry after a history
 unfoldable pub hits : Settings → List Entry → ℕ → Input → List ℕ
-hits settings g moment input = hits_for settings moment (state settings g) (heard settings moment input (with_due_replied settings moment (state settings g)))
+hits settings g moment input = hits_for settings moment (tables_of settings g) (after_input settings moment input (with_due_replied settings moment (tables_of settings g)))
 
 -- the entry that an input makes, handed in at m
 unfoldable pub next_entry : Settings → List Entry → ℕ → Input → Entry
@@ -57,7 +57,7 @@ next_entry settings h m input = record { moment = entry_moment h m; input = inpu
 
 -- ---- replies
 
-abbrev pub outputs_with : Settings → ℕ → List ℕ → State → Effects → Outputs
+abbrev pub outputs_with : Settings → ℕ → List ℕ → Tables → Effects → Outputs
 outputs_with settings number hit_numbers final f =
     record {
       entry = number;
@@ -71,7 +71,7 @@ outputs_with settings number hit_numbers final f =
 
 -- what the newest entry of a history gives out
 unfoldable pub outputs : Settings → List Entry → Entry → Outputs
-outputs settings g e = outputs_with settings (suc (length g)) e.hits (after settings (state settings g) e) (effects settings (state settings g) e)
+outputs settings g e = outputs_with settings (suc (length g)) e.hits (after settings (tables_of settings g) e) (effects settings (tables_of settings g) e)
 
 -- the reply to an event, and the history after it
 abbrev pub reply : Settings → List Entry → ℕ → Input → Result Outputs Refused

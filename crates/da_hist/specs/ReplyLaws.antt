@@ -7,9 +7,9 @@ use Rattle.da_hist.specs.declared.settings.Settings.{Settings}
 use Rattle.da_hist.specs.declared.state.Connection.{Connection}
 use Rattle.da_hist.specs.declared.state.Decision.{Decision}
 use Rattle.da_hist.specs.declared.state.Request.{Request}
-use Rattle.da_hist.specs.declared.state.State.{State}
+use Rattle.da_hist.specs.declared.state.Tables.{Tables}
 use Rattle.da_hist.specs.Requests.{is_due, decision, due_moment, final_line}
-use Rattle.da_hist.specs.History.{state}
+use Rattle.da_hist.specs.History.{tables_of}
 use Rattle.da_hist.specs.Effects.{effects, final_replies, all_final_replies, reply_lines, entry_lines}
 
 -- a request has at most one final reply
@@ -18,30 +18,30 @@ RepliesAtMostOnce = (settings : Settings) (h : List Entry) (n : ℕ) → count_w
 
 -- after an entry no reply is left that is due at its moment
 abbrev pub NothingDueIsLeft : Type 0
-NothingDueIsLeft = (settings : Settings) (e : Entry) (g : List Entry) → list_any (is_due settings e.moment) (state settings (e ∷ g)).requests ≡ false
+NothingDueIsLeft = (settings : Settings) (e : Entry) (g : List Entry) → list_any (is_due settings e.moment) (tables_of settings (e ∷ g)).requests ≡ false
 
 -- a final reply is one of a request that is decided by its stage, and whose reply is due
 abbrev pub RepliesAreDue : Type 0
 RepliesAreDue =
     (settings : Settings) (e : Entry) (g : List Entry) (n : ℕ) →
-    list_any (λ m. m == n) (final_replies (effects settings (state settings g) e)) ≡ true →
-    (r : Request) × (nth (state settings (e ∷ g)).requests n ≡ Some r) × (is_some (decision settings r) ≡ true)
+    list_any (λ m. m == n) (final_replies (effects settings (tables_of settings g) e)) ≡ true →
+    (r : Request) × (nth (tables_of settings (e ∷ g)).requests n ≡ Some r) × (is_some (decision settings r) ≡ true)
     × (r.replied ≡ Some e.moment) × (passes_option (λ due. nat_le due e.moment) (due_moment settings r) ≡ true)
 
 -- what is decided by its stage is noted as decided, unless it is cancelled
 abbrev pub DecisionsAreNoted : Type 0
 DecisionsAreNoted =
-    (settings : Settings) (h : List Entry) (n : ℕ) (r : Request) → nth (state settings h).requests n ≡ Some r →
+    (settings : Settings) (h : List Entry) (n : ℕ) (r : Request) → nth (tables_of settings h).requests n ≡ Some r →
     is_some (decision settings r) ≡ true → r.is_cancelled ≡ false → is_some r.decided ≡ true
 
 -- a connection that has ended gets no line
 abbrev pub EndedIsSilent : Type 0
 EndedIsSilent =
-    (settings : Settings) (e : Entry) (g : List Entry) (conn : ℕ) (c : Connection) → nth (state settings g).connections conn ≡ Some c → c.is_open ≡ false →
+    (settings : Settings) (e : Entry) (g : List Entry) (conn : ℕ) (c : Connection) → nth (tables_of settings g).connections conn ≡ Some c → c.is_open ≡ false →
     list_any (λ l. l.0 == conn) (entry_lines settings e g) ≡ false
 
 -- a final reply is one line, to the connection of its request
 abbrev pub RepliesAreLines : Type 0
 RepliesAreLines =
-    (settings : Settings) (st : State) (n : ℕ) (r : Request) (d : Decision) →
-    nth st.requests n ≡ Some r → decision settings r ≡ Some d → reply_lines settings st n ≡ (r.conn, final_line r.id d) ∷ []
+    (settings : Settings) (tables : Tables) (n : ℕ) (r : Request) (d : Decision) →
+    nth tables.requests n ≡ Some r → decision settings r ≡ Some d → reply_lines settings tables n ≡ (r.conn, final_line r.id d) ∷ []

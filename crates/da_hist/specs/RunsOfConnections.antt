@@ -4,7 +4,7 @@ use Rattle.da_msgs.specs.declared.kinds.ConnKind.TheVariants.{Client, Master}
 use Rattle.da_hist.specs.declared.input.Input.TheVariants.{Broken, Gone, Take, Tick}
 use Rattle.da_hist.specs.declared.outputs.Refused.TheVariants.{HistoryFull, ConnLimit, NoConn, NothingWaits}
 use Rattle.da_hist.specs.declared.settings.Settings.{Settings}
-use Rattle.da_hist.specs.UsualSettings.{usual_settings}
+use Rattle.da_hist.specs.DefaultSettings.{default_settings}
 use Rattle.da_hist.specs.Play.{Event}
 use Rattle.da_hist.specs.RunWords.{Reply, opened, line, silence, closes, greets_client, greets_master}
 use Rattle.da_hist.specs.RunsOfLogins.{right_login, right_login_replies}
@@ -50,7 +50,7 @@ long_line_replies = greets_client 1 1 ∷ closes 2 1 ∷ Err (NoConn 1) ∷ []
 -- ---- a history may have one entry
 
 abbrev pub one_entry : Settings
-one_entry = record (usual_settings 0) { history_entries = 1 }
+one_entry = record (default_settings 0) { history_entries = 1 }
 
 abbrev pub two_entries : List Event
 two_entries = opened 1 Master ∷ (2, Tick) ∷ []
@@ -61,7 +61,7 @@ two_entries_replies = greets_master 1 1 ∷ Err HistoryFull ∷ []
 -- ---- one connection may be open
 
 abbrev pub one_connection : Settings
-one_connection = record (usual_settings 0) { connections = 1 }
+one_connection = record (default_settings 0) { connections = 1 }
 
 abbrev pub two_connections : List Event
 two_connections = opened 1 Client ∷ opened 2 Client ∷ []

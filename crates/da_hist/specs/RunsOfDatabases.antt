@@ -5,7 +5,7 @@ use Rattle.da_fields.specs.declared.answer.Why.TheVariants.{Died, Said}
 use Rattle.da_fields.specs.declared.outcome.Rule.TheVariants.{ContinueOk}
 use Rattle.da_hist.specs.declared.input.Input.TheVariants.{Take}
 use Rattle.da_hist.specs.declared.settings.Settings.{Settings}
-use Rattle.da_hist.specs.UsualSettings.{usual_settings, usual_passdb}
+use Rattle.da_hist.specs.DefaultSettings.{default_settings, default_passdb}
 use Rattle.da_hist.specs.Play.{Event}
 use Rattle.da_hist.specs.RunWords.{Reply, answer, silence, sent, asks_password}
 use Rattle.da_hist.specs.RunsOfLogins.{alice_asks, alice_is_looked_up}
@@ -13,7 +13,7 @@ use Rattle.da_hist.specs.RunsOfLogins.{alice_asks, alice_is_looked_up}
 -- ---- the first database fails, and the second doesn't know her
 
 abbrev pub two_databases : Settings
-two_databases = record (usual_settings 0) { passdb = usual_passdb 1 ∷ usual_passdb 2 ∷ [] }
+two_databases = record (default_settings 0) { passdb = default_passdb 1 ∷ default_passdb 2 ∷ [] }
 
 abbrev pub failed_then_unknown : List Event
 failed_then_unknown = alice_asks ++ (answer 1005 1 (Internal Said) ∷ (1006, Take) ∷ answer 1007 2 Unknown ∷ [])
@@ -25,7 +25,7 @@ failed_then_unknown_replies =
 -- ---- the first database denies whom it knows
 
 abbrev pub denying_first : Settings
-denying_first = record (usual_settings 0) { passdb = record (usual_passdb 1) { deny = true } ∷ usual_passdb 2 ∷ [] }
+denying_first = record (default_settings 0) { passdb = record (default_passdb 1) { deny = true } ∷ default_passdb 2 ∷ [] }
 
 abbrev pub denied : List Event
 denied = alice_asks ++ (answer 1005 1 (Found [] []) ∷ [])
@@ -46,10 +46,10 @@ denial_failed_replies = alice_is_looked_up ++ (sent 6 1 (codes "FAIL\t1\tuser=al
 
 abbrev pub going_on_with_success : Settings
 going_on_with_success =
-    record (usual_settings 0) {
+    record (default_settings 0) {
       passdb =
-          record (usual_passdb 1) { result_success = ContinueOk; override_fields = (codes "quota", codes "%s") ∷ [] }
-          ∷ usual_passdb 2
+          record (default_passdb 1) { result_success = ContinueOk; override_fields = (codes "quota", codes "%s") ∷ [] }
+          ∷ default_passdb 2
           ∷ [];
     }
 

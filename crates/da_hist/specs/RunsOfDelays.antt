@@ -3,12 +3,12 @@ use Rattle.std.specs.Prelude.{List, [], ◌∷◌, ◌++◌, codes}
 use Rattle.da_fields.specs.declared.answer.Answer.TheVariants.{Found, Unknown}
 use Rattle.da_hist.specs.declared.input.Input.TheVariants.{Take, Tick}
 use Rattle.da_hist.specs.declared.settings.Settings.{Settings}
-use Rattle.da_hist.specs.UsualSettings.{usual_settings}
+use Rattle.da_hist.specs.DefaultSettings.{default_settings}
 use Rattle.da_hist.specs.Play.{Event}
 use Rattle.da_hist.specs.RunWords.{Reply, line, answer, introduced, introductions, plain_login, alice, bob, silence, sent, due, asks_password}
 
 abbrev pub two_seconds : Settings
-two_seconds = usual_settings 2000
+two_seconds = default_settings 2000
 
 -- alice asks for a login, and a worker takes the query
 abbrev pub alice_waits : List Event

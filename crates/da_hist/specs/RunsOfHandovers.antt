@@ -9,7 +9,7 @@ use Rattle.da_userdb.specs.declared.database.UserDriver.TheVariants.{Worker}
 use Rattle.da_userdb.specs.declared.database.UserSkip.TheVariants.{Never}
 use Rattle.da_hist.specs.declared.input.Input.TheVariants.{Gone, Take}
 use Rattle.da_hist.specs.declared.settings.Settings.{Settings}
-use Rattle.da_hist.specs.UsualSettings.{usual_settings}
+use Rattle.da_hist.specs.DefaultSettings.{default_settings}
 use Rattle.da_hist.specs.Play.{Event}
 use Rattle.da_hist.specs.RunWords.{Reply, opened, line, answer, introduced, introductions, plain_login, alice, silence, sent, greets_master, asks_password, asks_user}
 
@@ -29,7 +29,7 @@ usual_userdb =
     }
 
 abbrev pub with_users : Settings
-with_users = record (usual_settings 0) { userdb = usual_userdb ∷ [] }
+with_users = record (default_settings 0) { userdb = usual_userdb ∷ [] }
 
 -- a master asks for the login that is request 1 of the client with the process number 4711, by the cookie that the
 -- client's connection was told, and by another

@@ -4,17 +4,17 @@ use Rattle.da_fields.specs.declared.answer.Answer.TheVariants.{Found, Unknown}
 use Rattle.da_fields.specs.declared.outcome.Rule.TheVariants.{Continue}
 use Rattle.da_hist.specs.declared.input.Input.TheVariants.{Take}
 use Rattle.da_hist.specs.declared.settings.Settings.{Settings}
-use Rattle.da_hist.specs.UsualSettings.{usual_settings, usual_passdb}
+use Rattle.da_hist.specs.DefaultSettings.{default_settings, default_passdb}
 use Rattle.da_hist.specs.Play.{Event}
 use Rattle.da_hist.specs.RunWords.{Reply, line, answer, introduced, introductions, plain_login, silence, sent, asks_password}
 
 -- an asterisk stands between user and master, the first database has the masters' passwords, and the second the users
 abbrev pub with_masters : Settings
 with_masters =
-    record (usual_settings 0) {
+    record (default_settings 0) {
       -- *
       master_separator = Some 42;
-      passdb = record (usual_passdb 1) { master = true; result_success = Continue } ∷ usual_passdb 2 ∷ [];
+      passdb = record (default_passdb 1) { master = true; result_success = Continue } ∷ default_passdb 2 ∷ [];
     }
 
 -- root's password is right, and then bob is looked up

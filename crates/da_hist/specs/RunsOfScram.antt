@@ -5,12 +5,12 @@ use Rattle.da_fields.specs.declared.answer.Answer.TheVariants.{Found}
 use Rattle.da_msgs.specs.declared.kinds.Mech.TheVariants.{ScramSha256}
 use Rattle.da_hist.specs.declared.input.Input.TheVariants.{Take}
 use Rattle.da_hist.specs.declared.settings.Settings.{Settings}
-use Rattle.da_hist.specs.UsualSettings.{usual_settings}
+use Rattle.da_hist.specs.DefaultSettings.{default_settings}
 use Rattle.da_hist.specs.Play.{Event}
 use Rattle.da_hist.specs.RunWords.{Reply, line, answer, introduced, silence, sent, greets, asks_password}
 
 abbrev pub scram_settings : Settings
-scram_settings = record (usual_settings 0) { mechanisms = ScramSha256 ∷ [] }
+scram_settings = record (default_settings 0) { mechanisms = ScramSha256 ∷ [] }
 
 -- the client's first message is n,,n=user,r=rOprNGfwEbeRWgbNEkqO
 abbrev pub user_asks : List Event

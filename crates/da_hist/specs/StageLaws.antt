@@ -7,11 +7,11 @@ use Rattle.da_hist.specs.declared.settings.Settings.{Settings}
 use Rattle.da_hist.specs.declared.state.Request.{Request}
 use Rattle.da_hist.specs.Attempts.{Attempt}
 use Rattle.da_hist.specs.Requests.{request_stage, attempt_of}
-use Rattle.da_hist.specs.History.{state}
+use Rattle.da_hist.specs.History.{tables_of}
 
 -- request n of the history is this attempt to log in
 pub record IsAttempt (settings : Settings) (h : List Entry) (n : ℕ) (r : Request) (a : Attempt) : Type 0 where
-  pub stands : nth (state settings h).requests n ≡ Some r
+  pub is_there : nth (tables_of settings h).requests n ≡ Some r
   pub attempts : attempt_of settings r ≡ Some a
 
 -- the same answers under each database

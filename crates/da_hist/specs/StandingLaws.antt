@@ -4,13 +4,13 @@ use Rattle.da_base.specs.Words.{nth}
 use Rattle.da_fields.specs.declared.answer.Answer.{Answer}
 use Rattle.da_hist.specs.declared.input.Entry.{Entry}
 use Rattle.da_hist.specs.declared.settings.Settings.{Settings}
-use Rattle.da_hist.specs.declared.state.Asked.{Asked}
+use Rattle.da_hist.specs.declared.state.QueryRow.{QueryRow}
 use Rattle.da_hist.specs.declared.state.Connection.{Connection}
 use Rattle.da_hist.specs.declared.state.Request.{Request}
-use Rattle.da_hist.specs.declared.state.State.{State}
+use Rattle.da_hist.specs.declared.state.Tables.{Tables}
 use Rattle.da_hist.specs.Requests.{is_granted_for, decision}
 use Rattle.da_hist.specs.Grants.{is_used}
-use Rattle.da_hist.specs.History.{state}
+use Rattle.da_hist.specs.History.{tables_of}
 
 -- a connection keeps its kind and its cookie, and is never opened again
 pub record ConnectionStands (c d : Connection) : Type 0 where
@@ -33,7 +33,7 @@ pub record RequestStands (r s : Request) : Type 0 where
   pub answers : is_some r.decided ≡ true → s.answers ≡ r.answers
 
 -- a query keeps its request, its question and its password; what was taken or answered stays so
-pub record QueryStands (a b : Asked) : Type 0 where
+pub record QueryStands (a b : QueryRow) : Type 0 where
   pub request : b.request ≡ a.request
   pub question : b.question ≡ a.question
   pub password : b.password ≡ a.password
@@ -41,21 +41,21 @@ pub record QueryStands (a b : Asked) : Type 0 where
   pub answer : (p : Answer × ℕ) → a.answer ≡ Some p → b.answer ≡ Some p
 
 -- the later tables have each row of the earlier ones, and it stands
-pub record TablesStand (st later : State) : Type 0 where
-  pub connections : (n : ℕ) (c : Connection) → nth st.connections n ≡ Some c → (d : Connection) × (nth later.connections n ≡ Some d) × ConnectionStands c d
-  pub requests : (n : ℕ) (r : Request) → nth st.requests n ≡ Some r → (s : Request) × (nth later.requests n ≡ Some s) × RequestStands r s
-  pub queries : (n : ℕ) (a : Asked) → nth st.queries n ≡ Some a → (b : Asked) × (nth later.queries n ≡ Some b) × QueryStands a b
+pub record TablesStand (tables later : Tables) : Type 0 where
+  pub connections : (n : ℕ) (c : Connection) → nth tables.connections n ≡ Some c → (d : Connection) × (nth later.connections n ≡ Some d) × ConnectionStands c d
+  pub requests : (n : ℕ) (r : Request) → nth tables.requests n ≡ Some r → (s : Request) × (nth later.requests n ≡ Some s) × RequestStands r s
+  pub queries : (n : ℕ) (a : QueryRow) → nth tables.queries n ≡ Some a → (b : QueryRow) × (nth later.queries n ≡ Some b) × QueryStands a b
 
 -- what is ended, cancelled, decided, replied, granted, taken or answered stays so
-abbrev pub WhatIsSettledStands : Type 0
-WhatIsSettledStands = (settings : Settings) (newer h : List Entry) → TablesStand (state settings h) (state settings (newer ++ h))
+abbrev pub WhatIsDoneStands : Type 0
+WhatIsDoneStands = (settings : Settings) (newer h : List Entry) → TablesStand (tables_of settings h) (tables_of settings (newer ++ h))
 
 -- a login that served a request of a master is used for ever
 abbrev pub UsedStaysUsed : Type 0
-UsedStaysUsed = (settings : Settings) (newer h : List Entry) (n : ℕ) → is_used (state settings h) n ≡ true → is_used (state settings (newer ++ h)) n ≡ true
+UsedStaysUsed = (settings : Settings) (newer h : List Entry) (n : ℕ) → is_used (tables_of settings h) n ≡ true → is_used (tables_of settings (newer ++ h)) n ≡ true
 
 -- the decision of a request that is decided doesn't change
 abbrev pub DecisionsStand : Type 0
 DecisionsStand =
-    (settings : Settings) (newer h : List Entry) (n : ℕ) (r : Request) → nth (state settings h).requests n ≡ Some r → is_some r.decided ≡ true →
-    (s : Request) × (nth (state settings (newer ++ h)).requests n ≡ Some s) × (decision settings s ≡ decision settings r)
+    (settings : Settings) (newer h : List Entry) (n : ℕ) (r : Request) → nth (tables_of settings h).requests n ≡ Some r → is_some r.decided ≡ true →
+    (s : Request) × (nth (tables_of settings (newer ++ h)).requests n ≡ Some s) × (decision settings s ≡ decision settings r)

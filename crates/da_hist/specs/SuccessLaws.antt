@@ -37,7 +37,7 @@ IsAmong db (d ∷ dbs) = (d ≡ db) ⊎ IsAmong db dbs
 -- an answer of a database that denies nobody is recorded, and it is a success, by the password where one is sent
 pub record HasSuccess (dbs : List Passdb) (login : Login) (answers : Answers) : Type 0 where
   pub db : Passdb
-  pub stands : IsAmong db dbs
+  pub is_there : IsAmong db dbs
   pub is_no_deny : db.deny ≡ false
   pub answer : Answer
   pub recorded : answer_from db.number answers ≡ Some answer

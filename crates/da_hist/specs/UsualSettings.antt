@@ -10,12 +10,12 @@ use Rattle.da_schemes.specs.declared.scheme.Scheme.TheVariants.{Plain as PlainSc
 use Rattle.da_hist.specs.declared.settings.Settings.{Settings}
 
 -- letters, digits, the dot, the dash, the underscore and the at sign
-abbrev pub usual_username_chars : Bytes
-usual_username_chars = codes "abcdefghijklmnopqrstuvwxyzABCDEFGHIJKLMNOPQRSTUVWXYZ0123456789.-_@"
+abbrev pub default_username_chars : Bytes
+default_username_chars = codes "abcdefghijklmnopqrstuvwxyzABCDEFGHIJKLMNOPQRSTUVWXYZ0123456789.-_@"
 
 -- a password database that workers answer for
-abbrev pub usual_passdb : ℕ → Passdb
-usual_passdb number =
+abbrev pub default_passdb : ℕ → Passdb
+default_passdb number =
     record {
       number = number;
       driver = Worker;
@@ -32,13 +32,13 @@ usual_passdb number =
       override_fields = [];
     }
 
-unfoldable pub usual_settings : ℕ → Settings
-usual_settings failure_delay =
+unfoldable pub default_settings : ℕ → Settings
+default_settings failure_delay =
     record {
       server_pid = 1;
       host = codes "localhost";
       mechanisms = Plain ∷ [];
-      username_chars = usual_username_chars;
+      username_chars = default_username_chars;
       username_lower = true;
       master_separator = None;
       failure_delay = failure_delay;
@@ -53,6 +53,6 @@ usual_settings failure_delay =
       history_entries = 500000;
       history_bytes = 268435456;
       connections = 1000;
-      passdb = usual_passdb 1 ∷ [];
+      passdb = default_passdb 1 ∷ [];
       userdb = [];
     }

@@ -2,7 +2,7 @@
 
 ghost use Rattle.std.specs.Prelude.{◌≡◌, codes, Some, None, IfOk};
 ghost use Rattle.da_fields.specs.FieldList.{field};
-ghost use Rattle.da_hist.specs.Attempts as words;
+ghost use Rattle.da_hist.specs.Attempts.{Attempt, after_chain, after_proof, after_verdict, attempt_stage, failure, is_disabled, is_temp, plain_failure, with_credentials};
 
 use crate::lists::Texts;
 use crate::mechanisms::mechanism_says;
@@ -29,9 +29,8 @@ pub(crate) struct Attempt<'a> {
 }
 
 impl<'a> Model for Attempt<'a> {
-    ghost use Rattle.da_hist.specs.Attempts as words;
 
-    ghost Value = { words.Attempt };
+    ghost Value = { Attempt };
 
     ghost view = { λ a. record { mech = a.mech; params = a.params.now; messages = a.messages; random = a.random.now; start = a.start; answers = a.answers.now } };
 }
@@ -43,10 +42,10 @@ pub(crate) fn attempt_stage(
     settings: &Settings,
     attempt: &Attempt<'_>,
 ) -> Result<Stage, AllocError>
-    ensures { IfOk result (λ stage. stage ≡ words.attempt_stage settings.now attempt.now) }
+    ensures { IfOk result (λ stage. stage ≡ attempt_stage settings.now attempt.now) }
 {
     match opening_of(alloc, settings, attempt)? {
-        Opening::Settled(stage) => Ok(stage),
+        Opening::Immediate(stage) => Ok(stage),
         Opening::LogsIn(mech, login) => {
             let chain = next(alloc, settings.passdbs(), &login, attempt.answers)?;
             after_chain(alloc, mech, settings, attempt, chain)
@@ -61,7 +60,7 @@ fn after_chain(
     attempt: &Attempt<'_>,
     chain: Chain,
 ) -> Result<Stage, AllocError>
-    ensures { IfOk result (λ stage. stage ≡ words.after_chain mech settings.now attempt.now chain) }
+    ensures { IfOk result (λ stage. stage ≡ after_chain mech settings.now attempt.now chain) }
 {
     match chain {
         Chain::Ask {
@@ -86,7 +85,7 @@ fn after_verdict(
     attempt: &Attempt<'_>,
     verdict: Verdict,
 ) -> Result<Stage, AllocError>
-    ensures { IfOk result (λ stage. stage ≡ words.after_verdict verdict.kind mech settings.now attempt.now verdict) }
+    ensures { IfOk result (λ stage. stage ≡ after_verdict verdict.kind mech settings.now attempt.now verdict) }
 {
     match verdict.kind {
         VerdictKind::Ok => match mech {
@@ -108,7 +107,7 @@ fn with_credentials(
     attempt: &Attempt<'_>,
     verdict: Verdict,
 ) -> Result<Stage, AllocError>
-    ensures { IfOk result (λ stage. stage ≡ words.with_credentials mech settings.now attempt.now verdict verdict.credentials) }
+    ensures { IfOk result (λ stage. stage ≡ with_credentials mech settings.now attempt.now verdict verdict.credentials) }
 {
     match &verdict.credentials {
         None => plain_failure(alloc, verdict, None),
@@ -121,7 +120,7 @@ fn with_credentials(
 
 // The stage once the mechanism has read the messages with credentials.
 fn after_proof(alloc: Global, verdict: Verdict, said: Said) -> Result<Stage, AllocError>
-    ensures { IfOk result (λ stage. stage ≡ words.after_proof verdict said) }
+    ensures { IfOk result (λ stage. stage ≡ after_proof verdict said) }
 {
     match said {
         Said::Challenge(text) => Ok(Stage::Awaits(text)),
@@ -146,7 +145,7 @@ fn success(verdict: Verdict, last: Option<Text>) -> Stage
 
 // A failure that tells of nothing but a wrong login.
 fn plain_failure(alloc: Global, verdict: Verdict, reason: Option<Text>) -> Result<Stage, AllocError>
-    ensures { IfOk result (λ stage. stage ≡ words.plain_failure verdict reason) }
+    ensures { IfOk result (λ stage. stage ≡ plain_failure verdict reason) }
 {
     let mut verdict = verdict;
     verdict.kind = VerdictKind::Fail;
@@ -155,7 +154,7 @@ fn plain_failure(alloc: Global, verdict: Verdict, reason: Option<Text>) -> Resul
 
 // A failure told for the chain's user, with this reason, or else with that of the chain's fields.
 fn failure(alloc: Global, verdict: Verdict, reason: Option<Text>) -> Result<Stage, AllocError>
-    ensures { IfOk result (λ stage. stage ≡ words.failure verdict reason) }
+    ensures { IfOk result (λ stage. stage ≡ failure verdict reason) }
 {
     match reason {
         None => {
@@ -176,7 +175,7 @@ fn told_reason(alloc: Global, fields: &Fields) -> Result<Option<Text>, AllocErro
 }
 
 fn failure_for(verdict: Verdict, reason: Option<Text>) -> Stage
-    ensures { result ≡ Stage.Decided (Decision.Failure (Some verdict.user) verdict.authz (words.is_temp verdict.kind) (words.is_disabled verdict.kind) reason) }
+    ensures { result ≡ Stage.Decided (Decision.Failure (Some verdict.user) verdict.authz (is_temp verdict.kind) (is_disabled verdict.kind) reason) }
 {
     let temp = matches!(verdict.kind, VerdictKind::Temp);
     let disabled = matches!(verdict.kind, VerdictKind::Disabled);

@@ -3,13 +3,13 @@
 ghost use Rattle.std.specs.Prelude.{◌≡◌, ◌<◌, ◌^◌, ◌-◌, ◌&&◌, ◌==◌, length};
 ghost use Rattle.std.specs.List.{list_any};
 ghost use Rattle.da_base.specs.Words.{count_where, number_where};
-ghost use Rattle.da_hist.specs.Connections as words;
+ghost use Rattle.da_hist.specs.Connections.{client_may, has_pid, master_may, request_number};
 ghost use Rattle.da_hist.specs.Requests.{is_pending};
 ghost use Rattle.da_hist.specs.Tables.{is_client, is_of, is_open_in};
 ghost use Rattle.da_hist.specs.Legal.{open_count};
 
 use crate::numbered::row;
-use crate::state::{Connection, Request, State};
+use crate::state::{Connection, Request, Tables};
 use da_msgs::{ClientMsg, ConnKind, MasterMsg};
 
 /// How many requests of a connection may be open.
@@ -34,7 +34,7 @@ impl Connection {
 
     /// Whether it is open, and a client sent this process number on it.
     pub(crate) fn has_pid(&self, pid: u32) -> bool
-        ensures { result ≡ words.has_pid pid self.now }
+        ensures { result ≡ has_pid pid self.now }
     {
         self.is_of_client() && self.is_open && self.pid == Some(pid)
     }
@@ -78,7 +78,7 @@ fn number_called(requests: &[Request], conn: u32, id: u32) -> u32
 
 fn number_with_pid(connections: &[Connection], pid: u32) -> u32
     requires { length connections.now < 2 ^ 32 - 1 }
-    ensures { result ≡ number_where (words.has_pid pid) connections.now }
+    ensures { result ≡ number_where (has_pid pid) connections.now }
 {
     let mut before: u32 = 0;
     for connection in connections {
@@ -91,7 +91,7 @@ fn number_with_pid(connections: &[Connection], pid: u32) -> u32
 }
 
 fn some_has_pid(connections: &[Connection], pid: u32) -> bool
-    ensures { result ≡ list_any (words.has_pid pid) connections.now }
+    ensures { result ≡ list_any (has_pid pid) connections.now }
 {
     connections.iter().any(|connection| connection.has_pid(pid))
 }
@@ -114,7 +114,7 @@ fn count_open(connections: &[Connection]) -> usize
         .count()
 }
 
-impl State {
+impl Tables {
     /// Whether the connection is open.
     pub(crate) fn is_open(&self, conn: u32) -> bool
         ensures { result ≡ is_open_in self.now conn }
@@ -135,7 +135,7 @@ impl State {
     /// The number of the request that the connection calls by this id, or 0.
     pub(crate) fn request_number(&self, conn: u32, id: u32) -> u32
         requires { length self.now.requests < 2 ^ 32 - 1 }
-        ensures { result ≡ words.request_number self.now conn id }
+        ensures { result ≡ request_number self.now conn id }
     {
         number_called(&self.requests.items, conn, id)
     }
@@ -143,7 +143,7 @@ impl State {
     /// The number of the open connection on which a client sent this process number, or 0.
     pub(crate) fn connection_with(&self, pid: u32) -> u32
         requires { length self.now.connections < 2 ^ 32 - 1 }
-        ensures { result ≡ number_where (words.has_pid pid) self.now.connections }
+        ensures { result ≡ number_where (has_pid pid) self.now.connections }
     {
         number_with_pid(&self.connections.items, pid)
     }
@@ -152,7 +152,7 @@ impl State {
     /// open client has; a new request has an id of its own, and finds fewer than 1,000 requests of its connection open.
     pub(crate) fn client_may(&self, conn: u32, connection: &Connection, message: &ClientMsg) -> bool
         requires { length self.now.requests < 2 ^ 32 - 1 }
-        ensures { result ≡ words.client_may self.now conn connection.now message.now }
+        ensures { result ≡ client_may self.now conn connection.now message.now }
     {
         match message {
             ClientMsg::Version { major, .. } => !connection.has_version && *major == 1,
@@ -174,7 +174,7 @@ impl State {
     /// Whether a master may send this message: first its version; a request has an id of its own.
     pub(crate) fn master_may(&self, conn: u32, connection: &Connection, message: &MasterMsg) -> bool
         requires { length self.now.requests < 2 ^ 32 - 1 }
-        ensures { result ≡ words.master_may self.now conn connection.now message.now }
+        ensures { result ≡ master_may self.now conn connection.now message.now }
     {
         match message {
             MasterMsg::Version { major, .. } => !connection.has_version && *major == 1,

@@ -3,8 +3,8 @@
 ghost use Rattle.std.specs.Prelude.{◌≡◌, IfOk};
 
 use crate::state::{
-    Answers, Asked, Body, Connection, Connections, Grant, Keys, Queries, Question, Request,
-    Requests, State, Tests,
+    Answers, QueryRow, Body, Connection, Connections, Grant, Keys, Queries, Question, Request,
+    Requests, Tables, Comparisons,
 };
 use da_fields::{Answer, Text};
 use std::alloc::{AllocError, Global};
@@ -124,27 +124,27 @@ impl Question {
     }
 }
 
-impl Tests {
-    fn copy(&self, alloc: Global) -> Result<Tests, AllocError>
+impl Comparisons {
+    fn copy(&self, alloc: Global) -> Result<Comparisons, AllocError>
         ensures { IfOk result (λ copy. copy ≡ self.now) }
     {
-        Ok(Tests {
+        Ok(Comparisons {
             items: Vec::from_slice(alloc, &self.items)?,
         })
     }
 }
 
-impl Asked {
-    fn copy(&self, alloc: Global) -> Result<Asked, AllocError>
+impl QueryRow {
+    fn copy(&self, alloc: Global) -> Result<QueryRow, AllocError>
         ensures { IfOk result (λ copy. copy ≡ self.now) }
     {
-        Ok(Asked {
+        Ok(QueryRow {
             request: self.request,
             question: self.question.copy(alloc)?,
             password: copy_text(alloc, &self.password)?,
             taken: self.taken,
             answer: answer_copy(alloc, &self.answer)?,
-            tests: self.tests.copy(alloc)?,
+            comparisons: self.comparisons.copy(alloc)?,
         })
     }
 }
@@ -178,8 +178,8 @@ impl Queries {
         ensures { IfOk result (λ copy. copy ≡ self.now) }
     {
         let mut items = Vec::new(alloc);
-        for asked in &self.items {
-            items.push(asked.copy(alloc)?)?;
+        for query_row in &self.items {
+            items.push(query_row.copy(alloc)?)?;
         }
         Ok(Queries { items })
     }
@@ -197,16 +197,16 @@ impl Keys {
     }
 }
 
-impl State {
+impl Tables {
     /// Equal tables.
-    pub(crate) fn copy(&self, alloc: Global) -> Result<State, AllocError>
+    pub(crate) fn copy(&self, alloc: Global) -> Result<Tables, AllocError>
         ensures { IfOk result (λ copy. copy ≡ self.now) }
     {
-        Ok(State {
+        Ok(Tables {
             connections: self.connections.copy(alloc)?,
             requests: self.requests.copy(alloc)?,
             queries: self.queries.copy(alloc)?,
-            recordings: self.recordings.copy(alloc)?,
+            cacheable: self.cacheable.copy(alloc)?,
             keys: self.keys.copy(alloc)?,
         })
     }

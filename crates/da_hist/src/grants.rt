@@ -2,13 +2,13 @@
 
 ghost use Rattle.std.specs.Prelude.{◌≡◌, ◌<◌, ◌^◌, ◌-◌, length, IfOk, option_map, option_and_then};
 ghost use Rattle.da_base.specs.Words.{nth};
-ghost use Rattle.da_hist.specs.Grants as words;
-ghost use Rattle.da_hist.specs.Requests as requests;
+ghost use Rattle.da_hist.specs.Grants.{grant_for, grant_on, granted, is_fresh, lookup_with, usable_login};
+ghost use Rattle.da_hist.specs.Requests.{decision};
 
 use crate::numbered::row;
 use crate::openings::vars_for;
 use crate::settings::Settings;
-use crate::state::{Body, Connection, Decision, Grant, Request, State};
+use crate::state::{Body, Connection, Decision, Grant, Request, Tables};
 use da_userdb::Lookup;
 use std::alloc::{AllocError, Global};
 
@@ -18,7 +18,7 @@ const LOGIN_LIFE: u64 = 150_000;
 impl Request {
     /// Whether it isn't cancelled, and was replied at most 150,000 ms ago.
     fn is_fresh(&self, moment: u64) -> bool
-        ensures { result ≡ words.is_fresh moment self.now }
+        ensures { result ≡ is_fresh moment self.now }
     {
         !self.is_cancelled
             && match self.replied {
@@ -29,7 +29,7 @@ impl Request {
 
     /// What is looked up for the login, where it succeeded.
     fn lookup(&self, alloc: Global, settings: &Settings) -> Result<Option<Lookup>, AllocError>
-        ensures { IfOk result (λ lookup. lookup ≡ option_and_then (words.lookup_with self.now.body) (requests.decision settings.now self.now)) }
+        ensures { IfOk result (λ lookup. lookup ≡ option_and_then (lookup_with self.now.body) (decision settings.now self.now)) }
     {
         match self.decision(alloc, settings)? {
             Some(decision) => lookup_with(alloc, &self.body, decision),
@@ -39,7 +39,7 @@ impl Request {
 }
 
 fn lookup_with(alloc: Global, body: &Body, decision: Decision) -> Result<Option<Lookup>, AllocError>
-    ensures { IfOk result (λ lookup. lookup ≡ words.lookup_with body.now decision) }
+    ensures { IfOk result (λ lookup. lookup ≡ lookup_with body.now decision) }
 {
     let Body::Authenticates { params, .. } = body else {
         return Ok(None);
@@ -57,7 +57,7 @@ fn lookup_with(alloc: Global, body: &Body, decision: Decision) -> Result<Option<
     }
 }
 
-impl State {
+impl Tables {
     /// The login of a request, where it may still be used.
     fn usable_login(
         &self,
@@ -67,7 +67,7 @@ impl State {
         number: u32,
         request: &Request,
     ) -> Result<Option<Grant>, AllocError>
-        ensures { IfOk result (λ grant. grant ≡ words.usable_login settings.now moment self.now number request.now) }
+        ensures { IfOk result (λ grant. grant ≡ usable_login settings.now moment self.now number request.now) }
     {
         if !request.is_fresh(moment) || self.is_used(number) {
             return Ok(None);
@@ -88,7 +88,7 @@ impl State {
         moment: u64,
         number: u32,
     ) -> Result<Option<Grant>, AllocError>
-        ensures { IfOk result (λ grant. grant ≡ words.grant_for settings.now moment self.now number (nth self.now.requests number)) }
+        ensures { IfOk result (λ grant. grant ≡ grant_for settings.now moment self.now number (nth self.now.requests number)) }
     {
         match row(&self.requests.items, number) {
             Some(request) => self.usable_login(alloc, settings, moment, number, request),
@@ -107,7 +107,7 @@ impl State {
         conn: u32,
     ) -> Result<Option<Grant>, AllocError>
         requires { length self.now.requests < 2 ^ 32 - 1 }
-        ensures { IfOk result (λ grant. grant ≡ words.grant_on settings.now moment self.now client cookie.now conn (nth self.now.connections conn)) }
+        ensures { IfOk result (λ grant. grant ≡ grant_on settings.now moment self.now client cookie.now conn (nth self.now.connections conn)) }
     {
         let Some(connection) = row(&self.connections.items, conn) else {
             return Ok(None);
@@ -133,7 +133,7 @@ impl State {
     ) -> Result<Option<Grant>, AllocError>
         requires requests { length self.now.requests < 2 ^ 32 - 1 }
         requires connections { length self.now.connections < 2 ^ 32 - 1 }
-        ensures { IfOk result (λ grant. grant ≡ words.granted settings.now moment self.now pid client cookie.now) }
+        ensures { IfOk result (λ grant. grant ≡ granted settings.now moment self.now pid client cookie.now) }
     {
         let conn = self.connection_with(pid);
         self.grant_on(alloc, settings, moment, client, cookie, conn)

@@ -6,56 +6,56 @@ ghost use Rattle.std.specs.List.{list_any};
 ghost use Rattle.da_hist.specs.declared.settings.Settings.{Settings};
 ghost use Rattle.da_msgs.specs.ClientMessages.{client_message};
 ghost use Rattle.da_msgs.specs.MasterMessages.{master_message};
-ghost use Rattle.da_hist.specs.LinesHeard as words;
-ghost use Rattle.da_hist.specs.InPlace.{heard_in};
-ghost use Rattle.da_hist.specs.Tables.{moving_new, with_request};
+ghost use Rattle.da_hist.specs.Lines.{cancels, client_line, continues, is_awaiting, is_cancellable, line_on, master_line, new_request, after_meaning, after_client_message, after_master_message, with_text};
+ghost use Rattle.da_hist.specs.Bridges.{with_effect};
+ghost use Rattle.da_hist.specs.Tables.{continuing_new, with_request};
 ghost use Rattle.da_hist.specs.Grants.{is_used};
 ghost use Rattle.da_hist.specs.Requests.{decision, is_undecided, is_granted_for, is_login_success};
 
 use crate::lists::Texts;
 use crate::numbered::row;
 use crate::settings::Settings;
-use crate::state::{Answers, Body, Connection, Decision, Request, Requests, Stage, State};
+use crate::state::{Answers, Body, Connection, Decision, Request, Requests, Stage, Tables};
 use da_fields::Text;
 use da_msgs::{ClientMsg, MasterMsg};
 use std::alloc::{AllocError, Global};
 
 /// What an input does beside changing the tables.
 #[derive(Clone, Copy, Drop)]
-pub(crate) struct Heard {
+pub(crate) struct InputEffect {
     /// The request that it moves.
-    pub(crate) mover: Option<u32>,
+    pub(crate) continued: Option<u32>,
     /// The connection that the server closes.
     pub(crate) closed: Option<u32>,
 }
 
-impl Heard {
+impl InputEffect {
     /// It moves no request.
-    pub(crate) fn moving_none() -> Heard
-        ensures { result ≡ record { mover = None; closed = None } }
+    pub(crate) fn continuing_none() -> InputEffect
+        ensures { result ≡ record { continued = None; closed = None } }
     {
-        Heard {
-            mover: None,
+        InputEffect {
+            continued: None,
             closed: None,
         }
     }
 
     /// It moves this request.
-    pub(crate) fn moving(number: u32) -> Heard
-        ensures { result ≡ record { mover = Some number; closed = None } }
+    pub(crate) fn continuing(number: u32) -> InputEffect
+        ensures { result ≡ record { continued = Some number; closed = None } }
     {
-        Heard {
-            mover: Some(number),
+        InputEffect {
+            continued: Some(number),
             closed: None,
         }
     }
 
     /// The server closes this connection.
-    pub(crate) fn closing(conn: u32) -> Heard
-        ensures { result ≡ record { mover = None; closed = Some conn } }
+    pub(crate) fn closing(conn: u32) -> InputEffect
+        ensures { result ≡ record { continued = None; closed = Some conn } }
     {
-        Heard {
-            mover: None,
+        InputEffect {
+            continued: None,
             closed: Some(conn),
         }
     }
@@ -63,7 +63,7 @@ impl Heard {
 
 /// What a line does, once it is read and it is known whether it may stand where it stands.
 #[derive(Drop)]
-pub(crate) enum Obeyed {
+pub(crate) enum LineMeaning {
     /// Nothing: its connection isn't open.
     Nothing,
     /// It closes its connection.
@@ -84,7 +84,7 @@ impl Request {
 
     /// Whether it awaits a message of the client.
     fn is_awaiting(&self, alloc: Global, settings: &Settings) -> Result<bool, AllocError>
-        ensures { IfOk result (λ awaiting. awaiting ≡ words.is_awaiting settings.now self.now) }
+        ensures { IfOk result (λ awaiting. awaiting ≡ is_awaiting settings.now self.now) }
     {
         if !self.is_undecided() {
             return Ok(false);
@@ -117,7 +117,7 @@ impl Request {
 
     /// The next message of the client.
     fn push_text(&mut self, text: Text) -> Result<(), AllocError>
-        ensures { OnOk result (self.new ≡ words.with_text text self.old) }
+        ensures { OnOk result (self.new ≡ with_text text self.old) }
     {
         match &mut self.body {
             Body::Authenticates { texts, .. } => texts.push(text),
@@ -127,7 +127,7 @@ impl Request {
 }
 
 fn push_text(requests: &mut [Request], number: u32, text: Text) -> Result<(), AllocError>
-    ensures { OnOk result (requests.new ≡ changed_nth (words.with_text text) requests.old number) }
+    ensures { OnOk result (requests.new ≡ changed_nth (with_text text) requests.old number) }
 {
     if number > 0 && number as usize <= requests.len() {
         let request = &mut requests[number as usize - 1];
@@ -152,7 +152,7 @@ fn new_request(
     random: &[u8; 16],
     body: Body,
 ) -> Request
-    ensures { result ≡ words.new_request moment conn id random.now body }
+    ensures { result ≡ new_request moment conn id random.now body }
 {
     Request {
         conn,
@@ -169,7 +169,7 @@ fn new_request(
     }
 }
 
-impl State {
+impl Tables {
     /// Whether a lookup was granted for the request of this number.
     pub(crate) fn is_used(&self, number: u32) -> bool
         ensures { result ≡ is_used self.now number }
@@ -183,7 +183,7 @@ impl State {
         settings: &Settings,
         number: u32,
     ) -> Result<bool, AllocError>
-        ensures { IfOk result (λ awaiting. awaiting ≡ passes_option (words.is_awaiting settings.now) (nth self.now.requests number)) }
+        ensures { IfOk result (λ awaiting. awaiting ≡ passes_option (is_awaiting settings.now) (nth self.now.requests number)) }
     {
         match row(&self.requests.items, number) {
             Some(request) => request.is_awaiting(alloc, settings),
@@ -198,7 +198,7 @@ impl State {
         number: u32,
         request: &Request,
     ) -> Result<bool, AllocError>
-        ensures { IfOk result (λ may. may ≡ words.is_cancellable settings.now self.now number request.now) }
+        ensures { IfOk result (λ may. may ≡ is_cancellable settings.now self.now number request.now) }
     {
         if request.is_pending() {
             return Ok(true);
@@ -215,7 +215,7 @@ impl State {
         settings: &Settings,
         number: u32,
     ) -> Result<bool, AllocError>
-        ensures { IfOk result (λ may. may ≡ passes_option (words.is_cancellable settings.now self.now number) (nth self.now.requests number)) }
+        ensures { IfOk result (λ may. may ≡ passes_option (is_cancellable settings.now self.now number) (nth self.now.requests number)) }
     {
         match row(&self.requests.items, number) {
             Some(request) => self.is_cancellable(alloc, settings, number, request),
@@ -224,7 +224,7 @@ impl State {
     }
 
     fn push_text(&mut self, number: u32, text: Text) -> Result<(), AllocError>
-        ensures { OnOk result (self.new ≡ with_request (words.with_text text) number self.old) }
+        ensures { OnOk result (self.new ≡ with_request (with_text text) number self.old) }
     {
         push_text(&mut self.requests.items, number, text)
     }
@@ -236,14 +236,14 @@ impl State {
         settings: &Settings,
         number: u32,
         text: Text,
-    ) -> Result<Heard, AllocError>
-        ensures { IfOk result (λ h. heard_in self.new h ≡ words.continues settings.now number text self.old) }
+    ) -> Result<InputEffect, AllocError>
+        ensures { IfOk result (λ h. with_effect self.new h ≡ continues settings.now number text self.old) }
     {
         if self.is_awaiting(alloc, settings, number)? {
             self.push_text(number, text)?;
-            Ok(Heard::moving(number))
+            Ok(InputEffect::continuing(number))
         } else {
-            Ok(Heard::moving_none())
+            Ok(InputEffect::continuing_none())
         }
     }
 
@@ -252,26 +252,26 @@ impl State {
         alloc: Global,
         settings: &Settings,
         number: u32,
-    ) -> Result<Heard, AllocError>
-        ensures { IfOk result (λ h. heard_in self.new h ≡ words.cancels settings.now number self.old) }
+    ) -> Result<InputEffect, AllocError>
+        ensures { IfOk result (λ h. with_effect self.new h ≡ cancels settings.now number self.old) }
     {
         if self.may_cancel(alloc, settings, number)? {
             self.cancel(number);
         }
-        Ok(Heard::moving_none())
+        Ok(InputEffect::continuing_none())
     }
 
     /// A new request, which is the one that moves.
-    fn accepts(&mut self, request: Request) -> Result<Heard, AllocError>
+    fn accepts(&mut self, request: Request) -> Result<InputEffect, AllocError>
         requires { length self.old.requests < 2 ^ 32 - 1 }
-        ensures { IfOk result (λ h. heard_in self.new h ≡ moving_new request self.old) }
+        ensures { IfOk result (λ h. with_effect self.new h ≡ continuing_new request self.old) }
     {
         let number = self.requests.items.len() as u32 + 1;
         self.requests.items.push(request)?;
-        Ok(Heard::moving(number))
+        Ok(InputEffect::continuing(number))
     }
 
-    fn obeys_client(
+    fn apply_client_message(
         &mut self,
         alloc: Global,
         settings: &Settings,
@@ -279,9 +279,9 @@ impl State {
         conn: u32,
         random: &[u8; 16],
         message: ClientMsg,
-    ) -> Result<Heard, AllocError>
+    ) -> Result<InputEffect, AllocError>
         requires { length self.old.requests < 2 ^ 32 - 1 }
-        ensures { IfOk result (λ h. heard_in self.new h ≡ words.obeys settings.now moment conn random.now message self.old) }
+        ensures { IfOk result (λ h. with_effect self.new h ≡ after_client_message settings.now moment conn random.now message self.old) }
     {
         match message {
             ClientMsg::Version { .. } => self.version(conn),
@@ -311,10 +311,10 @@ impl State {
             }
             ClientMsg::Other => {}
         }
-        Ok(Heard::moving_none())
+        Ok(InputEffect::continuing_none())
     }
 
-    fn obeys_master(
+    fn apply_master_message(
         &mut self,
         alloc: Global,
         settings: &Settings,
@@ -322,10 +322,10 @@ impl State {
         conn: u32,
         random: &[u8; 16],
         message: MasterMsg,
-    ) -> Result<Heard, AllocError>
+    ) -> Result<InputEffect, AllocError>
         requires requests { length self.old.requests < 2 ^ 32 - 1 }
         requires connections { length self.old.connections < 2 ^ 32 - 1 }
-        ensures { IfOk result (λ h. heard_in self.new h ≡ words.obeys_master settings.now moment conn random.now message self.old) }
+        ensures { IfOk result (λ h. with_effect self.new h ≡ after_master_message settings.now moment conn random.now message self.old) }
     {
         match message {
             MasterMsg::Version { .. } => self.version(conn),
@@ -341,97 +341,97 @@ impl State {
             }
             MasterMsg::Other => {}
         }
-        Ok(Heard::moving_none())
+        Ok(InputEffect::continuing_none())
     }
 
     /// What a line of a client does on its open connection.
-    fn reads_client(
+    fn client_line_meaning(
         &self,
         alloc: Global,
         conn: u32,
         connection: &Connection,
         text: &[u8],
-    ) -> Result<Obeyed, AllocError>
+    ) -> Result<LineMeaning, AllocError>
         requires { length self.now.requests < 2 ^ 32 - 1 }
-        ensures { IfOk result (λ o. (settings : Settings) (moment : ℕ) (random : Bytes) → words.obeyed settings moment conn random o self.now ≡ words.client_line settings moment conn random connection.now (client_message text.now) self.now) }
+        ensures { IfOk result (λ o. (settings : Settings) (moment : ℕ) (random : Bytes) → after_meaning settings moment conn random o self.now ≡ client_line settings moment conn random connection.now (client_message text.now) self.now) }
     {
         match ClientMsg::read(alloc, text)? {
             Some(message) => {
                 if self.client_may(conn, connection, &message) {
-                    Ok(Obeyed::Client(message))
+                    Ok(LineMeaning::Client(message))
                 } else {
-                    Ok(Obeyed::Closes)
+                    Ok(LineMeaning::Closes)
                 }
             }
-            None => Ok(Obeyed::Closes),
+            None => Ok(LineMeaning::Closes),
         }
     }
 
     /// What a line of a master does on its open connection.
-    fn reads_master(
+    fn master_line_meaning(
         &self,
         alloc: Global,
         conn: u32,
         connection: &Connection,
         text: &[u8],
-    ) -> Result<Obeyed, AllocError>
+    ) -> Result<LineMeaning, AllocError>
         requires { length self.now.requests < 2 ^ 32 - 1 }
-        ensures { IfOk result (λ o. (settings : Settings) (moment : ℕ) (random : Bytes) → words.obeyed settings moment conn random o self.now ≡ words.master_line settings moment conn random connection.now (master_message text.now) self.now) }
+        ensures { IfOk result (λ o. (settings : Settings) (moment : ℕ) (random : Bytes) → after_meaning settings moment conn random o self.now ≡ master_line settings moment conn random connection.now (master_message text.now) self.now) }
     {
         match MasterMsg::read(alloc, text)? {
             Some(message) => {
                 if self.master_may(conn, connection, &message) {
-                    Ok(Obeyed::Master(message))
+                    Ok(LineMeaning::Master(message))
                 } else {
-                    Ok(Obeyed::Closes)
+                    Ok(LineMeaning::Closes)
                 }
             }
-            None => Ok(Obeyed::Closes),
+            None => Ok(LineMeaning::Closes),
         }
     }
 
     /// What a line does.
-    fn reads(&self, alloc: Global, conn: u32, text: &[u8]) -> Result<Obeyed, AllocError>
+    fn line_meaning(&self, alloc: Global, conn: u32, text: &[u8]) -> Result<LineMeaning, AllocError>
         requires { length self.now.requests < 2 ^ 32 - 1 }
-        ensures { IfOk result (λ o. (settings : Settings) (moment : ℕ) (random : Bytes) → words.obeyed settings moment conn random o self.now ≡ words.line_on settings moment conn text.now random (nth self.now.connections conn) self.now) }
+        ensures { IfOk result (λ o. (settings : Settings) (moment : ℕ) (random : Bytes) → after_meaning settings moment conn random o self.now ≡ line_on settings moment conn text.now random (nth self.now.connections conn) self.now) }
     {
         let Some(connection) = row(&self.connections.items, conn) else {
-            return Ok(Obeyed::Nothing);
+            return Ok(LineMeaning::Ignored);
         };
         if !connection.is_open {
-            return Ok(Obeyed::Nothing);
+            return Ok(LineMeaning::Ignored);
         }
         if connection.is_of_client() {
-            self.reads_client(alloc, conn, connection, text)
+            self.client_line_meaning(alloc, conn, connection, text)
         } else {
-            self.reads_master(alloc, conn, connection, text)
+            self.master_line_meaning(alloc, conn, connection, text)
         }
     }
 
-    fn obeys(
+    fn apply_meaning(
         &mut self,
         alloc: Global,
         settings: &Settings,
         moment: u64,
         conn: u32,
         random: &[u8; 16],
-        obeyed: Obeyed,
-    ) -> Result<Heard, AllocError>
+        meaning: LineMeaning,
+    ) -> Result<InputEffect, AllocError>
         requires requests { length self.old.requests < 2 ^ 32 - 1 }
         requires connections { length self.old.connections < 2 ^ 32 - 1 }
-        ensures { IfOk result (λ h. heard_in self.new h ≡ words.obeyed settings.now moment conn random.now obeyed self.old) }
+        ensures { IfOk result (λ h. with_effect self.new h ≡ after_meaning settings.now moment conn random.now meaning self.old) }
     {
-        match obeyed {
-            Obeyed::Nothing => Ok(Heard::moving_none()),
-            Obeyed::Closes => {
+        match meaning {
+            LineMeaning::Ignored => Ok(InputEffect::continuing_none()),
+            LineMeaning::Closes => {
                 self.end(conn);
-                Ok(Heard::closing(conn))
+                Ok(InputEffect::closing(conn))
             }
-            Obeyed::Client(message) => {
-                self.obeys_client(alloc, settings, moment, conn, random, message)
+            LineMeaning::Client(message) => {
+                self.apply_client_message(alloc, settings, moment, conn, random, message)
             }
-            Obeyed::Master(message) => {
-                self.obeys_master(alloc, settings, moment, conn, random, message)
+            LineMeaning::Master(message) => {
+                self.apply_master_message(alloc, settings, moment, conn, random, message)
             }
         }
     }
@@ -445,12 +445,12 @@ impl State {
         conn: u32,
         text: &[u8],
         random: &[u8; 16],
-    ) -> Result<Heard, AllocError>
+    ) -> Result<InputEffect, AllocError>
         requires requests { length self.old.requests < 2 ^ 32 - 1 }
         requires connections { length self.old.connections < 2 ^ 32 - 1 }
-        ensures { IfOk result (λ h. heard_in self.new h ≡ words.line_on settings.now moment conn text.now random.now (nth self.old.connections conn) self.old) }
+        ensures { IfOk result (λ h. with_effect self.new h ≡ line_on settings.now moment conn text.now random.now (nth self.old.connections conn) self.old) }
     {
-        let obeyed = self.reads(alloc, conn, text)?;
-        self.obeys(alloc, settings, moment, conn, random, obeyed)
+        let meaning = self.line_meaning(alloc, conn, text)?;
+        self.apply_meaning(alloc, settings, moment, conn, random, meaning)
     }
 }

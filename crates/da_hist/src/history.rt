@@ -3,19 +3,19 @@
 ghost use Rattle.std.specs.Prelude.{◌≡◌, ◌<◌, ◌^◌, ◌-◌, ◌++◌, ◌∷◌, [], Some, None, false, true, length, map, IfOk, OnOk};
 ghost use Rattle.da_base.specs.Words.{changed_nth, hex, nth, option_or_else};
 ghost use Rattle.da_hist.specs.declared.state.Request.{Request as SomeRequest};
-ghost use Rattle.da_hist.specs.declared.state.State.{State as SomeState};
-ghost use Rattle.da_hist.specs.History as words;
-ghost use Rattle.da_hist.specs.Hits as of_hits;
-ghost use Rattle.da_hist.specs.InPlace.{heard_in};
+ghost use Rattle.da_hist.specs.declared.state.Tables.{Tables as SomeTables};
+ghost use Rattle.da_hist.specs.History.{follows_from, after_input, is_answer_recorded as spec_is_recorded, keeps, kept_for, replied_if_due, after_stage, as_taken, with_decision, with_due_replied};
+ghost use Rattle.da_hist.specs.Hits.{after_hits};
+ghost use Rattle.da_hist.specs.Bridges.{with_effect};
 ghost use Rattle.da_hist.specs.Tables.{with_query, with_request};
 
-use crate::heard::Heard;
+use crate::input_effect::InputEffect;
 use crate::hits::after_hits;
 use crate::input::Input;
 use crate::numbered::row;
 use crate::queries::{add_query, first_waiting, is_running_in, keep, record, recorded_answer};
 use crate::settings::Settings;
-use crate::state::{Asked, Connection, Request, Requests, Stage, State};
+use crate::state::{QueryRow, Connection, Request, Requests, Stage, Tables};
 use da_cram::hex_digits;
 use da_fields::{Answer, Text, Why};
 use da_msgs::ConnKind;
@@ -30,7 +30,7 @@ impl Request {
         settings: &Settings,
         moment: u64,
     ) -> Result<(), AllocError>
-        ensures { OnOk result (self.new ≡ words.replied_if_due settings.now moment self.old) }
+        ensures { OnOk result (self.new ≡ replied_if_due settings.now moment self.old) }
     {
         if self.is_due(alloc, settings, moment)? {
             self.replied = Some(moment);
@@ -40,7 +40,7 @@ impl Request {
 
     /// It is decided now, and replied where that is due at once.
     fn decide(&mut self, alloc: Global, settings: &Settings, moment: u64) -> Result<(), AllocError>
-        ensures { OnOk result (self.new ≡ words.with_decision settings.now moment self.old) }
+        ensures { OnOk result (self.new ≡ with_decision settings.now moment self.old) }
     {
         self.decided = Some(moment);
         self.reply_if_due(alloc, settings, moment)
@@ -53,7 +53,7 @@ fn reply_all_due(
     settings: &Settings,
     moment: u64,
 ) -> Result<(), AllocError>
-    ensures { OnOk result (requests.new ≡ map (words.replied_if_due settings.now moment) requests.old) }
+    ensures { OnOk result (requests.new ≡ map (replied_if_due settings.now moment) requests.old) }
 {
     for request in requests.iter_mut() {
         request.reply_if_due(alloc, settings, moment)?;
@@ -68,7 +68,7 @@ fn decide_row(
     moment: u64,
     number: u32,
 ) -> Result<(), AllocError>
-    ensures { OnOk result (requests.new ≡ changed_nth (words.with_decision settings.now moment) requests.old number) }
+    ensures { OnOk result (requests.new ≡ changed_nth (with_decision settings.now moment) requests.old number) }
 {
     if number > 0 && number as usize <= requests.len() {
         let request = &mut requests[number as usize - 1];
@@ -77,8 +77,8 @@ fn decide_row(
     Ok(())
 }
 
-fn take_row(queries: &mut [Asked], moment: u64, number: u32)
-    ensures { queries.new ≡ changed_nth (words.taken moment) queries.old number }
+fn take_row(queries: &mut [QueryRow], moment: u64, number: u32)
+    ensures { queries.new ≡ changed_nth (as_taken moment) queries.old number }
 {
     if number > 0 && number as usize <= queries.len() {
         queries[number as usize - 1].taken = Some(moment);
@@ -92,13 +92,13 @@ impl Requests {
         settings: &Settings,
         moment: u64,
     ) -> Result<(), AllocError>
-        ensures { OnOk result (self.new ≡ map (words.replied_if_due settings.now moment) self.old) }
+        ensures { OnOk result (self.new ≡ map (replied_if_due settings.now moment) self.old) }
     {
         reply_all_due(&mut self.items, alloc, settings, moment)
     }
 }
 
-impl State {
+impl Tables {
     /// The replies that are due are given.
     #[tactic(auto, unfolding(crate::specs::History::with_due_replied))]
     pub(crate) fn reply_due(
@@ -107,7 +107,7 @@ impl State {
         settings: &Settings,
         moment: u64,
     ) -> Result<(), AllocError>
-        ensures { OnOk result (self.new ≡ words.with_due_replied settings.now moment self.old) }
+        ensures { OnOk result (self.new ≡ with_due_replied settings.now moment self.old) }
     {
         self.requests.reply_due(alloc, settings, moment)
     }
@@ -134,23 +134,23 @@ impl State {
     }
 
     fn take(&mut self, moment: u64, number: u32)
-        ensures { self.new ≡ with_query (words.taken moment) number self.old }
+        ensures { self.new ≡ with_query (as_taken moment) number self.old }
     {
         take_row(&mut self.queries.items, moment, number);
     }
 
-    #[tactic(auto, unfolding(crate::specs::History::heard))]
-    pub(crate) fn hear(
+    #[tactic(auto, unfolding(crate::specs::History::after_input))]
+    pub(crate) fn apply_input(
         &mut self,
         alloc: Global,
         settings: &Settings,
         moment: u64,
         input: &Input,
-    ) -> Result<Heard, AllocError>
+    ) -> Result<InputEffect, AllocError>
         requires requests { length self.old.requests < 2 ^ 32 - 1 }
         requires connections { length self.old.connections < 2 ^ 32 - 1 }
         requires queries { length self.old.queries < 2 ^ 32 - 1 }
-        ensures { IfOk result (λ h. heard_in self.new h ≡ words.heard settings.now moment input.now self.old) }
+        ensures { IfOk result (λ h. with_effect self.new h ≡ after_input settings.now moment input.now self.old) }
     {
         match input {
             Input::Opened { kind, random } => self.push_connection(alloc, *kind, random)?,
@@ -159,7 +159,7 @@ impl State {
             }
             Input::Broken { conn } => {
                 self.end(*conn);
-                return Ok(Heard::closing(*conn));
+                return Ok(InputEffect::closing(*conn));
             }
             Input::Gone { conn } => self.end(*conn),
             Input::Take => {
@@ -167,15 +167,15 @@ impl State {
                 self.take(moment, number);
             }
             Input::Answered { query, answer } => {
-                return record(alloc, settings, moment, *query, answer.copy(alloc)?, self);
+                return record_answer(alloc, settings, moment, *query, answer.copy(alloc)?, self);
             }
             Input::Late { query } => {
                 let answer = Answer::Internal(Why::Late);
-                return record(alloc, settings, moment, *query, answer, self);
+                return record_answer(alloc, settings, moment, *query, answer, self);
             }
             Input::Tick => {}
         }
-        Ok(Heard::moving_none())
+        Ok(InputEffect::continuing_none())
     }
 
     // ---- part three: what follows for the request that was moved, after its hits
@@ -187,7 +187,7 @@ impl State {
         moment: u64,
         number: u32,
     ) -> Result<(), AllocError>
-        ensures { OnOk result (self.new ≡ with_request (words.with_decision settings.now moment) number self.old) }
+        ensures { OnOk result (self.new ≡ with_request (with_decision settings.now moment) number self.old) }
     {
         decide_row(&mut self.requests.items, alloc, settings, moment, number)
     }
@@ -200,7 +200,7 @@ impl State {
         number: u32,
         stage: Stage,
     ) -> Result<(), AllocError>
-        ensures { (r : SomeRequest) → nth self.old.requests number ≡ Some r → OnOk result (self.new ≡ words.follows_from settings.now moment number r stage self.old) }
+        ensures { (r : SomeRequest) → nth self.old.requests number ≡ Some r → OnOk result (self.new ≡ follows_from settings.now moment number r stage self.old) }
     {
         match stage {
             Stage::Awaits(_) => Ok(()),
@@ -211,14 +211,14 @@ impl State {
 
     /// What follows by the stage that the request has after its hits.
     #[tactic(auto, unfolding(crate::specs::History::settled))]
-    fn settle(
+    fn follow_stage(
         &mut self,
         alloc: Global,
         settings: &Settings,
         moment: u64,
         number: u32,
     ) -> Result<(), AllocError>
-        ensures { OnOk result (self.new ≡ words.settled settings.now moment number self.old) }
+        ensures { OnOk result (self.new ≡ after_stage settings.now moment number self.old) }
     {
         let Some(request) = row(&self.requests.items, number) else {
             return Ok(());
@@ -233,14 +233,14 @@ impl State {
         settings: &Settings,
         moment: u64,
         hits: &[u32],
-        mover: Option<u32>,
+        continued: Option<u32>,
     ) -> Result<(), AllocError>
-        ensures { OnOk result (self.new ≡ option_or_else mover self.old (λ number. words.settled settings.now moment number (of_hits.after_hits settings.now number self.old hits.now))) }
+        ensures { OnOk result (self.new ≡ option_or_else continued self.old (λ number. after_stage settings.now moment number (after_hits settings.now number self.old hits.now))) }
     {
-        match mover {
+        match continued {
             Some(number) => {
                 after_hits(alloc, settings, number, self, hits)?;
-                self.settle(alloc, settings, moment, number)
+                self.follow_stage(alloc, settings, moment, number)
             }
             None => Ok(()),
         }
@@ -248,8 +248,8 @@ impl State {
 
     // ---- last, the answer of the entry is kept
 
-    pub(crate) fn records(&self, input: &Input) -> bool
-        ensures { result ≡ words.is_recorded self.now input.now }
+    pub(crate) fn is_answer_recorded(&self, input: &Input) -> bool
+        ensures { result ≡ spec_is_recorded self.now input.now }
     {
         match input {
             Input::Answered { query, .. } => is_running_in(self, *query),
@@ -264,12 +264,12 @@ impl State {
         query: u32,
         answer: &Answer,
     ) -> Result<(), AllocError>
-        ensures { OnOk result (self.new ≡ words.kept_for settings.now query answer.now (nth self.old.queries query) self.old) }
+        ensures { OnOk result (self.new ≡ kept_for settings.now query answer.now (nth self.old.queries query) self.old) }
     {
-        let Some(asked) = row(&self.queries.items, query) else {
+        let Some(query_row) = row(&self.queries.items, query) else {
             return Ok(());
         };
-        let recorded = recorded_answer(asked.question.kind, answer.copy(alloc)?);
+        let recorded = recorded_answer(query_row.question.kind, answer.copy(alloc)?);
         keep(alloc, settings, query, &recorded, self)
     }
 
@@ -279,12 +279,12 @@ impl State {
         alloc: Global,
         settings: &Settings,
         input: &Input,
-        is_recorded: bool,
+        is_answer_recorded: bool,
     ) -> Result<(), AllocError>
-        ensures { (before : SomeState) → is_recorded ≡ words.is_recorded before input.now → OnOk result (self.new ≡ words.keeps settings.now before input.now self.old) }
+        ensures { (before : SomeTables) → is_answer_recorded ≡ spec_is_recorded before input.now → OnOk result (self.new ≡ keeps settings.now before input.now self.old) }
     {
         match input {
-            Input::Answered { query, answer } if is_recorded => {
+            Input::Answered { query, answer } if is_answer_recorded => {
                 self.keep_answer(alloc, settings, *query, answer)
             }
             _ => Ok(()),

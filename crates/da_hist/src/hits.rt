@@ -3,14 +3,14 @@
 ghost use Rattle.std.specs.Prelude.{◌≡◌, ◌∷◌, ◌++◌, IfOk, OnOk, option_map};
 ghost use Rattle.da_base.specs.Words.{nth, changed_nth, passes_option};
 ghost use Rattle.da_keys.specs.Keys.{same_key};
-ghost use Rattle.da_hist.specs.Hits as words;
-ghost use Rattle.da_hist.specs.InPlace.{next_hit as hit_next, repeated};
+ghost use Rattle.da_hist.specs.Hits.{after_hit, after_hits, answer_of, database_count, hit_for, hit_comparison, hits_from, is_usable, is_usable_answer, last_failed, may_use, newest, used_again, with_hit};
+ghost use Rattle.da_hist.specs.Bridges.{next_hit as hit_next, with_repeat};
 ghost use Rattle.da_hist.specs.Queries.{key_of};
 
 use crate::numbered::{row, row_index};
-use crate::queries::{add_answer, add_test, answer_in_row, key_of as key_for, life, use_test};
+use crate::queries::{add_answer, add_comparison, answer_in_row, key_of as key_for, ttl_of, use_comparison};
 use crate::settings::Settings;
-use crate::state::{Asked, Queries, Question, Request, Stage, State, Tests};
+use crate::state::{QueryRow, Queries, Question, Request, Stage, Tables, Comparisons};
 use da_keys::{Key, has_key, is_same_kind, key_first};
 use da_fields::Answer;
 use std::alloc::{AllocError, Global};
@@ -26,21 +26,21 @@ fn is_same_key(one: &Question, other: &Question) -> bool
 }
 
 // Whether the query of this number has the question's key.
-fn has_key_of(queries: &[Asked], number: u32, question: &Question) -> bool
+fn has_key_of(queries: &[QueryRow], number: u32, question: &Question) -> bool
     ensures { result ≡ passes_option (λ a. same_key (key_of question.now) (key_of a.question)) (nth queries.now number) }
 {
     match row(queries, number) {
-        Some(asked) => is_same_key(question, &asked.question),
+        Some(query_row) => is_same_key(question, &query_row.question),
         None => false,
     }
 }
 
 /// The query with the question's key whose answer was recorded last.
-pub(crate) fn newest(state: &State, question: &Question) -> Option<u32>
-    ensures { result ≡ words.newest state.now (key_of question.now) }
+pub(crate) fn newest(tables: &Tables, question: &Question) -> Option<u32>
+    ensures { result ≡ newest tables.now (key_of question.now) }
 {
-    for number in state.recordings.all() {
-        if has_key_of(&state.queries.items, *number, question) {
+    for number in tables.cacheable.all() {
+        if has_key_of(&tables.queries.items, *number, question) {
             return Some(*number);
         }
     }
@@ -50,21 +50,21 @@ pub(crate) fn newest(state: &State, question: &Question) -> Option<u32>
 // ---- when it may be repeated
 
 // Whether the last use that checked a password didn't match.
-fn last_failed(tests: &Tests) -> bool
-    ensures { result ≡ words.last_failed tests.now }
+fn last_failed(comparisons: &Comparisons) -> bool
+    ensures { result ≡ last_failed comparisons.now }
 {
-    match tests.items.first() {
+    match comparisons.items.first() {
         Some(matched) => !*matched,
         None => false,
     }
 }
 
 // Whether a use that found this may be made: one that doesn't match is made only after a use that didn't match.
-fn may_use(test: Option<bool>, tests: &Tests) -> bool
-    ensures { result ≡ words.may_use test tests.now }
+fn may_use(comparison: Option<bool>, comparisons: &Comparisons) -> bool
+    ensures { result ≡ may_use comparison comparisons.now }
 {
-    match test {
-        Some(false) => last_failed(tests),
+    match comparison {
+        Some(false) => last_failed(comparisons),
         _ => true,
     }
 }
@@ -76,17 +76,17 @@ fn is_usable_answer(
     moment: u64,
     request: &Request,
     question: &Question,
-    asked: &Asked,
+    query_row: &QueryRow,
     answer: &(Answer, u64),
 ) -> Result<bool, AllocError>
-    ensures { IfOk result (λ usable. usable ≡ words.is_usable_answer settings.now moment request.now question.now asked.now answer.now) }
+    ensures { IfOk result (λ usable. usable ≡ is_usable_answer settings.now moment request.now question.now query_row.now answer.now) }
 {
-    let life = life(settings, &answer.0);
-    if life == 0 || moment.saturating_sub(answer.1) > life {
+    let ttl = ttl_of(settings, &answer.0);
+    if ttl == 0 || moment.saturating_sub(answer.1) > ttl {
         return Ok(false);
     }
-    let test = use_test(alloc, settings, request, question, &answer.0)?;
-    Ok(may_use(test, &asked.tests))
+    let comparison = use_comparison(alloc, settings, request, question, &answer.0)?;
+    Ok(may_use(comparison, &query_row.comparisons))
 }
 
 /// Whether the answer to the query of this number is usable for what the request asks.
@@ -95,18 +95,18 @@ pub(crate) fn is_usable(
     alloc: Global,
     settings: &Settings,
     moment: u64,
-    state: &State,
+    tables: &Tables,
     request: &Request,
     question: &Question,
     number: u32,
 ) -> Result<bool, AllocError>
-    ensures { IfOk result (λ usable. usable ≡ words.is_usable settings.now moment state.now request.now question.now number) }
+    ensures { IfOk result (λ usable. usable ≡ is_usable settings.now moment tables.now request.now question.now number) }
 {
-    let Some(asked) = row(&state.queries.items, number) else {
+    let Some(query_row) = row(&tables.queries.items, number) else {
         return Ok(false);
     };
-    match &asked.answer {
-        Some(answer) => is_usable_answer(alloc, settings, moment, request, question, asked, answer),
+    match &query_row.answer {
+        Some(answer) => is_usable_answer(alloc, settings, moment, request, question, query_row, answer),
         None => Ok(false),
     }
 }
@@ -116,24 +116,24 @@ pub(crate) fn hit_for(
     alloc: Global,
     settings: &Settings,
     moment: u64,
-    state: &State,
+    tables: &Tables,
     request: &Request,
     question: &Question,
 ) -> Result<Option<u32>, AllocError>
-    ensures { IfOk result (λ hit. hit ≡ words.hit_for settings.now moment state.now request.now question.now) }
+    ensures { IfOk result (λ hit. hit ≡ hit_for settings.now moment tables.now request.now question.now) }
 {
     if !has_key(
-        &state.keys.items,
+        &tables.keys.items,
         question.kind,
         question.db,
         question.user.bytes(),
     ) {
         return Ok(None);
     }
-    let Some(number) = newest(state, question) else {
+    let Some(number) = newest(tables, question) else {
         return Ok(None);
     };
-    if is_usable(alloc, settings, moment, state, request, question, number)? {
+    if is_usable(alloc, settings, moment, tables, request, question, number)? {
         Ok(Some(number))
     } else {
         Ok(None)
@@ -154,26 +154,26 @@ fn next_hit(
     alloc: Global,
     settings: &Settings,
     moment: u64,
-    state: &State,
+    tables: &Tables,
     request: &Request,
 ) -> Result<Option<Hit>, AllocError>
-    ensures { IfOk result (λ hit. hit ≡ hit_next settings.now moment state.now request.now) }
+    ensures { IfOk result (λ hit. hit ≡ hit_next settings.now moment tables.now request.now) }
 {
     let Stage::Asks(question) = request.stage(alloc, settings)? else {
         return Ok(None);
     };
-    match hit_for(alloc, settings, moment, state, request, &question)? {
+    match hit_for(alloc, settings, moment, tables, request, &question)? {
         Some(number) => Ok(Some(Hit { question, number })),
         None => Ok(None),
     }
 }
 
 /// The recorded answer to the query of this number, where there is one.
-fn answer_of(state: &State, number: u32) -> Option<&Answer>
-    ensures { option_map (λ answer. answer.now) result ≡ words.answer_of state.now number }
+fn answer_of(tables: &Tables, number: u32) -> Option<&Answer>
+    ensures { option_map (λ answer. answer.now) result ≡ answer_of tables.now number }
 {
-    match row(&state.queries.items, number) {
-        Some(asked) => match &asked.answer {
+    match row(&tables.queries.items, number) {
+        Some(query_row) => match &query_row.answer {
             Some((answer, _)) => Some(answer),
             None => None,
         },
@@ -184,13 +184,13 @@ fn answer_of(state: &State, number: u32) -> Option<&Answer>
 // The request has this hit.
 fn take_hit(
     alloc: Global,
-    state: &State,
+    tables: &Tables,
     hit: &Hit,
     request: &mut Request,
 ) -> Result<(), AllocError>
-    ensures { OnOk result (request.new ≡ words.with_hit state.now hit.now.question hit.now.number request.old) }
+    ensures { OnOk result (request.new ≡ with_hit tables.now hit.now.question hit.now.number request.old) }
 {
-    match answer_of(state, hit.number) {
+    match answer_of(tables, hit.number) {
         Some(answer) => add_answer(request, hit.question.db, answer.copy(alloc)?),
         None => Ok(()),
     }
@@ -201,21 +201,21 @@ fn add_hits(
     alloc: Global,
     settings: &Settings,
     moment: u64,
-    state: &State,
+    tables: &Tables,
     databases: usize,
     request: Request,
     hits: &mut Vec<u32>,
 ) -> Result<(), AllocError>
-    ensures { OnOk result (hits.new.items ≡ hits.old.items ++ words.hits_from databases settings.now moment state.now request) }
+    ensures { OnOk result (hits.new.items ≡ hits.old.items ++ hits_from databases settings.now moment tables.now request) }
 {
     let mut request = request;
     let mut left = databases;
     while left > 0 {
-        let Some(hit) = next_hit(alloc, settings, moment, state, &request)? else {
+        let Some(hit) = next_hit(alloc, settings, moment, tables, &request)? else {
             return Ok(());
         };
         hits.push(hit.number)?;
-        take_hit(alloc, state, &hit, &mut request)?;
+        take_hit(alloc, tables, &hit, &mut request)?;
         left -= 1;
     }
     Ok(())
@@ -226,18 +226,18 @@ fn hits_after(
     alloc: Global,
     settings: &Settings,
     moment: u64,
-    state: &State,
+    tables: &Tables,
     databases: usize,
     request: &Request,
     first: &Hit,
 ) -> Result<Vec<u32>, AllocError>
-    ensures { IfOk result (λ hits. hits.items ≡ first.now.number ∷ words.hits_from databases settings.now moment state.now (words.with_hit state.now first.now.question first.now.number request.now)) }
+    ensures { IfOk result (λ hits. hits.items ≡ first.now.number ∷ hits_from databases settings.now moment tables.now (with_hit tables.now first.now.question first.now.number request.now)) }
 {
     let mut hits = Vec::new(alloc);
     hits.push(first.number)?;
     let mut after = request.copy(alloc)?;
-    take_hit(alloc, state, first, &mut after)?;
-    add_hits(alloc, settings, moment, state, databases, after, &mut hits)?;
+    take_hit(alloc, tables, first, &mut after)?;
+    add_hits(alloc, settings, moment, tables, databases, after, &mut hits)?;
     Ok(hits)
 }
 
@@ -246,21 +246,21 @@ pub(crate) fn hits_from(
     alloc: Global,
     settings: &Settings,
     moment: u64,
-    state: &State,
+    tables: &Tables,
     databases: usize,
     request: &Request,
 ) -> Result<Vec<u32>, AllocError>
-    ensures { IfOk result (λ hits. hits.items ≡ words.hits_from databases settings.now moment state.now request.now) }
+    ensures { IfOk result (λ hits. hits.items ≡ hits_from databases settings.now moment tables.now request.now) }
 {
-    if databases == 0 || state.keys.items.is_empty() {
+    if databases == 0 || tables.keys.items.is_empty() {
         return Ok(Vec::new(alloc));
     }
-    match next_hit(alloc, settings, moment, state, request)? {
+    match next_hit(alloc, settings, moment, tables, request)? {
         Some(first) => hits_after(
             alloc,
             settings,
             moment,
-            state,
+            tables,
             databases - 1,
             request,
             &first,
@@ -271,7 +271,7 @@ pub(crate) fn hits_from(
 
 /// How many databases there are, and so at most how many hits.
 pub(crate) fn database_count(settings: &Settings) -> usize
-    ensures { result ≡ words.database_count settings.now }
+    ensures { result ≡ database_count settings.now }
 {
     settings.passdbs().len() + settings.userdbs().len()
 }
@@ -279,92 +279,92 @@ pub(crate) fn database_count(settings: &Settings) -> usize
 // ---- what a hit does to the tables
 
 // What the use of the answer by the request of this number finds.
-fn hit_test(
+fn hit_comparison(
     alloc: Global,
     settings: &Settings,
     requests: &[Request],
-    mover: u32,
+    continued: u32,
     answer: &Answer,
 ) -> Result<Option<bool>, AllocError>
-    ensures { IfOk result (λ test. test ≡ words.hit_test settings.now answer.now (nth requests.now mover)) }
+    ensures { IfOk result (λ comparison. comparison ≡ hit_comparison settings.now answer.now (nth requests.now continued)) }
 {
-    let Some(request) = row(requests, mover) else {
+    let Some(request) = row(requests, continued) else {
         return Ok(None);
     };
     match request.stage(alloc, settings)? {
-        Stage::Asks(question) => use_test(alloc, settings, request, &question, answer),
+        Stage::Asks(question) => use_comparison(alloc, settings, request, &question, answer),
         _ => Ok(None),
     }
 }
 
 // What the use of a query's answer found is put first.
-fn use_again(asked: &mut Asked, test: Option<bool>) -> Result<(), AllocError>
-    ensures { OnOk result (asked.new ≡ words.used_again test asked.old) }
+fn use_again(query_row: &mut QueryRow, comparison: Option<bool>) -> Result<(), AllocError>
+    ensures { OnOk result (query_row.new ≡ used_again comparison query_row.old) }
 {
-    add_test(&mut asked.tests, test)
+    add_comparison(&mut query_row.comparisons, comparison)
 }
 
 // The same for the query of this number.
-fn use_row_again(queries: &mut Queries, number: u32, test: Option<bool>) -> Result<(), AllocError>
-    ensures { OnOk result (queries.new ≡ changed_nth (words.used_again test) queries.old number) }
+fn use_row_again(queries: &mut Queries, number: u32, comparison: Option<bool>) -> Result<(), AllocError>
+    ensures { OnOk result (queries.new ≡ changed_nth (used_again comparison) queries.old number) }
 {
     let Some(index) = row_index(&queries.items, number) else {
         return Ok(());
     };
-    let asked = &mut queries.items[index];
-    use_again(asked, test)
+    let query_row = &mut queries.items[index];
+    use_again(query_row, comparison)
 }
 
 // The answer is repeated for the request, a use of it found this, and its key comes first.
 fn repeat(
-    mover: u32,
+    continued: u32,
     number: u32,
     answer: (u32, Answer),
-    test: Option<bool>,
+    comparison: Option<bool>,
     key: Key,
-    state: &mut State,
+    tables: &mut Tables,
 ) -> Result<(), AllocError>
-    ensures { OnOk result (state.new ≡ repeated mover number answer.0 answer.1 test key state.old) }
+    ensures { OnOk result (tables.new ≡ with_repeat continued number answer.0 answer.1 comparison key tables.old) }
 {
-    key_first(&mut state.keys.items, key)?;
-    use_row_again(&mut state.queries, number, test)?;
-    answer_in_row(&mut state.requests, mover, answer.0, answer.1)
+    key_first(&mut tables.keys.items, key)?;
+    use_row_again(&mut tables.queries, number, comparison)?;
+    answer_in_row(&mut tables.requests, continued, answer.0, answer.1)
 }
 
 /// The answer to the query of this number is repeated for the request `mover`, and its key comes first.
 pub(crate) fn after_hit(
     alloc: Global,
     settings: &Settings,
-    mover: u32,
-    state: &mut State,
+    continued: u32,
+    tables: &mut Tables,
     number: u32,
 ) -> Result<(), AllocError>
-    ensures { OnOk result (state.new ≡ words.after_hit settings.now mover state.old number) }
+    ensures { OnOk result (tables.new ≡ after_hit settings.now continued tables.old number) }
 {
-    let Some(asked) = row(&state.queries.items, number) else {
+    let Some(query_row) = row(&tables.queries.items, number) else {
         return Ok(());
     };
-    let Some((answer, _)) = &asked.answer else {
+    let Some((answer, _)) = &query_row.answer else {
         return Ok(());
     };
-    let test = hit_test(alloc, settings, &state.requests.items, mover, answer)?;
-    let key = key_for(alloc, &asked.question)?;
-    let repeated = (asked.question.db, answer.copy(alloc)?);
-    repeat(mover, number, repeated, test, key, state)
+    let comparison = hit_comparison(alloc, settings, &tables.requests.items, continued, answer)?;
+    let key = key_for(alloc, &query_row.question)?;
+    let with_repeat = (query_row.question.db, answer.copy(alloc)?);
+    repeat(continued, number, with_repeat, comparison, key, tables)
 }
 
 /// The same for each of the queries of these numbers, one after the other.
 pub(crate) fn after_hits(
     alloc: Global,
     settings: &Settings,
-    mover: u32,
-    state: &mut State,
+    continued: u32,
+    tables: &mut Tables,
     hits: &[u32],
 ) -> Result<(), AllocError>
-    ensures { OnOk result (state.new ≡ words.after_hits settings.now mover state.old hits.now) }
+    ensures { OnOk result (tables.new ≡ after_hits settings.now continued tables.old hits.now) }
 {
     for number in hits {
-        after_hit(alloc, settings, mover, state, *number)?;
+        after_hit(alloc, settings, continued, tables, *number)?;
     }
     Ok(())
 }

@@ -2,10 +2,10 @@
 
 ghost use Rattle.std.specs.Prelude.{◌≡◌, Some, IfOk, option_copied};
 ghost use Rattle.da_cram.specs.Cram.{cram_says, cram_challenge};
-ghost use Rattle.da_scram.specs.Scram as scram;
+ghost use Rattle.da_scram.specs.Scram.{request_salt};
 ghost use Rattle.da_scram.specs.Reading.{scram_says};
 ghost use Rattle.da_base.specs.Words.{hex};
-ghost use Rattle.da_hist.specs.Attempts as words;
+ghost use Rattle.da_hist.specs.Attempts.{mechanism_says};
 
 use crate::attempts::Attempt;
 use crate::settings::Settings;
@@ -25,7 +25,7 @@ pub(crate) fn mechanism_says(
     attempt: &Attempt<'_>,
     credentials: Option<&Stored>,
 ) -> Result<Said, AllocError>
-    ensures { IfOk result (λ said. said ≡ words.mechanism_says mech settings.now attempt.now attempt.now.messages (option_copied credentials.entry)) }
+    ensures { IfOk result (λ said. said ≡ mechanism_says mech settings.now attempt.now attempt.now.messages (option_copied credentials.entry)) }
 {
     let Some(messages) = &attempt.messages else {
         return Ok(Said::Bad);
@@ -67,7 +67,7 @@ fn scram_sha256_says(
     random: &[u8; 16],
     credentials: Option<&Stored>,
 ) -> Result<Said, AllocError>
-    ensures { IfOk result (λ said. said ≡ scram_says (hex random.now) (scram.request_salt random.now) messages.now (option_copied credentials.entry)) }
+    ensures { IfOk result (λ said. said ≡ scram_says (hex random.now) (request_salt random.now) messages.now (option_copied credentials.entry)) }
 {
     let nonce = hex_digits(alloc, random)?;
     let salt = request_salt(random);

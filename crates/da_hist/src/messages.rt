@@ -2,7 +2,7 @@
 
 ghost use Rattle.std.specs.Prelude.{◌≡◌, ◌∷◌, ◌++◌, Some, IfOk, option_map, option_and_then};
 ghost use Rattle.da_base.specs.Words.{from_base64};
-ghost use Rattle.da_hist.specs.Attempts as words;
+ghost use Rattle.da_hist.specs.Attempts.{decoded, initial_response, said};
 
 use crate::lists::Texts;
 use base64::DecodeAllocError;
@@ -20,7 +20,7 @@ pub(crate) fn said(
     resp: &Option<Text>,
     texts: &[Text],
 ) -> Result<Option<Texts>, AllocError>
-    ensures { IfOk result (λ messages. messages ≡ words.said mech resp.now texts.now) }
+    ensures { IfOk result (λ messages. messages ≡ said mech resp.now texts.now) }
 {
     match resp {
         None => decoded(alloc, texts),
@@ -35,7 +35,7 @@ fn said_with(
     text: &Text,
     texts: &[Text],
 ) -> Result<Option<Texts>, AllocError>
-    ensures { IfOk result (λ messages. messages ≡ option_and_then (λ first. words.decoded (first ++ texts.now)) (words.initial_response mech (Some text.now))) }
+    ensures { IfOk result (λ messages. messages ≡ option_and_then (λ first. decoded (first ++ texts.now)) (initial_response mech (Some text.now))) }
 {
     match mech {
         Mech::Plain => decoded_both(alloc, text, texts),
@@ -47,14 +47,14 @@ fn said_with(
 
 #[tactic(auto, using(crate::proofs::DecodedMessages::none_before))]
 fn decoded(alloc: Global, texts: &[Text]) -> Result<Option<Texts>, AllocError>
-    ensures { IfOk result (λ messages. messages ≡ words.decoded texts.now) }
+    ensures { IfOk result (λ messages. messages ≡ decoded texts.now) }
 {
     decoded_after(Vec::new(alloc), alloc, texts)
 }
 
 #[tactic(auto, using(crate::proofs::DecodedMessages::one_before, crate::proofs::DecodedMessages::none_before))]
 fn decoded_both(alloc: Global, first: &Text, texts: &[Text]) -> Result<Option<Texts>, AllocError>
-    ensures { IfOk result (λ messages. messages ≡ words.decoded (first.now ∷ texts.now)) }
+    ensures { IfOk result (λ messages. messages ≡ decoded (first.now ∷ texts.now)) }
 {
     let Some(message) = decoded_text(alloc, first.bytes())? else {
         return Ok(None);
@@ -70,7 +70,7 @@ fn decoded_after(
     alloc: Global,
     texts: &[Text],
 ) -> Result<Option<Texts>, AllocError>
-    ensures { IfOk result (λ all. all ≡ option_map (λ rest. messages.items ++ rest) (words.decoded texts.now)) }
+    ensures { IfOk result (λ all. all ≡ option_map (λ rest. messages.items ++ rest) (decoded texts.now)) }
 {
     let mut messages = messages;
     for text in texts {

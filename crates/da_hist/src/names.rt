@@ -2,8 +2,8 @@
 
 ghost use Rattle.std.specs.Prelude.{◌≡◌, None, IfOk, if◌then◌else◌, option_map};
 ghost use Rattle.da_base.specs.Words.{is_empty};
-ghost use Rattle.da_names.specs.Names as names_of;
-ghost use Rattle.da_hist.specs.Attempts as words;
+ghost use Rattle.da_names.specs.Names.{normal};
+ghost use Rattle.da_hist.specs.Attempts.{both_normal, names, names_split, split_at};
 
 use crate::settings::Settings;
 use da_fields::Text;
@@ -19,7 +19,7 @@ pub(crate) fn names(
     name: &[u8],
     authzid: &[u8],
 ) -> Result<Option<(Text, Option<Text>)>, AllocError>
-    ensures { IfOk result (λ names. names ≡ words.names settings.now name.now authzid.now) }
+    ensures { IfOk result (λ value. value ≡ names settings.now name.now authzid.now) }
 {
     match split_at(settings.master_separator, name) {
         None => whole_name(alloc, settings, name, authzid),
@@ -34,7 +34,7 @@ fn whole_name(
     name: &[u8],
     authzid: &[u8],
 ) -> Result<Option<(Text, Option<Text>)>, AllocError>
-    ensures { IfOk result (λ names. names ≡ words.names_split (names_of.normal settings.now.username_chars settings.now.username_lower) name.now authzid.now None) }
+    ensures { IfOk result (λ value. value ≡ names_split (normal settings.now.username_chars settings.now.username_lower) name.now authzid.now None) }
 {
     if authzid.is_empty() || authzid == name {
         user_alone(alloc, settings, name)
@@ -48,7 +48,7 @@ fn user_alone(
     settings: &Settings,
     name: &[u8],
 ) -> Result<Option<(Text, Option<Text>)>, AllocError>
-    ensures { IfOk result (λ names. names ≡ option_map (λ user. (user, None)) (names_of.normal settings.now.username_chars settings.now.username_lower name.now)) }
+    ensures { IfOk result (λ value. value ≡ option_map (λ user. (user, None)) (normal settings.now.username_chars settings.now.username_lower name.now)) }
 {
     match normal_name(alloc, settings, name)? {
         Some(user) => Ok(Some((user, None))),
@@ -64,7 +64,7 @@ fn name_in_parts(
     master: &[u8],
     authzid: &[u8],
 ) -> Result<Option<(Text, Option<Text>)>, AllocError>
-    ensures { IfOk result (λ names. names ≡ (if is_empty authzid.now then words.both_normal (names_of.normal settings.now.username_chars settings.now.username_lower user.now) (names_of.normal settings.now.username_chars settings.now.username_lower master.now) else None)) }
+    ensures { IfOk result (λ value. value ≡ (if is_empty authzid.now then both_normal (normal settings.now.username_chars settings.now.username_lower user.now) (normal settings.now.username_chars settings.now.username_lower master.now) else None)) }
 {
     if authzid.is_empty() {
         both_normal(alloc, settings, user, master)
@@ -79,7 +79,7 @@ fn both_normal(
     user: &[u8],
     master: &[u8],
 ) -> Result<Option<(Text, Option<Text>)>, AllocError>
-    ensures { IfOk result (λ names. names ≡ words.both_normal (names_of.normal settings.now.username_chars settings.now.username_lower user.now) (names_of.normal settings.now.username_chars settings.now.username_lower master.now)) }
+    ensures { IfOk result (λ value. value ≡ both_normal (normal settings.now.username_chars settings.now.username_lower user.now) (normal settings.now.username_chars settings.now.username_lower master.now)) }
 {
     let Some(user) = normal_name(alloc, settings, user)? else {
         return Ok(None);
@@ -91,7 +91,7 @@ fn both_normal(
 }
 
 fn normal_name(alloc: Global, settings: &Settings, name: &[u8]) -> Result<Option<Text>, AllocError>
-    ensures { IfOk result (λ made. made ≡ names_of.normal settings.now.username_chars settings.now.username_lower name.now) }
+    ensures { IfOk result (λ made. made ≡ normal settings.now.username_chars settings.now.username_lower name.now) }
 {
     let made = normal(
         alloc,
@@ -106,7 +106,7 @@ fn normal_name(alloc: Global, settings: &Settings, name: &[u8]) -> Result<Option
 }
 
 fn split_at(separator: Option<u8>, name: &[u8]) -> Option<(&[u8], &[u8])>
-    ensures { option_map (λ parts. (parts.0.now, parts.1.now)) result ≡ words.split_at separator name.now }
+    ensures { option_map (λ parts. (parts.0.now, parts.1.now)) result ≡ split_at separator name.now }
 {
     match separator {
         None => None,

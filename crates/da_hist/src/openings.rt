@@ -3,7 +3,7 @@
 ghost use Rattle.std.specs.Prelude.{◌≡◌, [], IfOk};
 ghost use Rattle.da_base.specs.Words.{option_or_else};
 ghost use Rattle.da_fields.specs.FieldList.{field};
-ghost use Rattle.da_hist.specs.Attempts as words;
+ghost use Rattle.da_hist.specs.Attempts.{fails_for, login_proof, opening, opening_named, opening_said, vars_for};
 
 use crate::attempts::Attempt;
 use crate::mechanisms::mechanism_says;
@@ -20,7 +20,7 @@ use std::alloc::{AllocError, Global};
 #[derive(Drop)]
 pub enum Opening {
     /// Its stage stands already.
-    Settled(Stage),
+    Immediate(Stage),
     /// It is a login.
     LogsIn(Mech, Login),
 }
@@ -32,10 +32,10 @@ pub(crate) fn opening_of(
     settings: &Settings,
     attempt: &Attempt<'_>,
 ) -> Result<Opening, AllocError>
-    ensures { IfOk result (λ opening. opening ≡ words.opening settings.now attempt.now) }
+    ensures { IfOk result (λ value. value ≡ opening settings.now attempt.now) }
 {
     match attempt.mech {
-        None => settled(alloc, b"Unsupported mechanism"),
+        None => immediate_failure(alloc, b"Unsupported mechanism"),
         Some(mech) => {
             let said = mechanism_says(alloc, mech, settings, attempt, None)?;
             opening_said(alloc, mech, settings, attempt, said)
@@ -50,10 +50,10 @@ fn opening_said(
     attempt: &Attempt<'_>,
     said: Said,
 ) -> Result<Opening, AllocError>
-    ensures { IfOk result (λ opening. opening ≡ words.opening_said mech settings.now attempt.now said) }
+    ensures { IfOk result (λ value. value ≡ opening_said mech settings.now attempt.now said) }
 {
     match said {
-        Said::Challenge(text) => Ok(Opening::Settled(Stage::Awaits(text))),
+        Said::Challenge(text) => Ok(Opening::Immediate(Stage::Awaits(text))),
         Said::Need {
             user,
             authzid,
@@ -62,7 +62,7 @@ fn opening_said(
             let names = names(alloc, settings, user.bytes(), authzid.bytes())?;
             opening_named(alloc, mech, attempt, password, names)
         }
-        Said::Proof { .. } | Said::Bad => settled(alloc, b"Invalid response"),
+        Said::Proof { .. } | Said::Bad => immediate_failure(alloc, b"Invalid response"),
     }
 }
 
@@ -73,10 +73,10 @@ fn opening_named(
     password: Option<Text>,
     names: Option<(Text, Option<Text>)>,
 ) -> Result<Opening, AllocError>
-    ensures { IfOk result (λ opening. opening ≡ words.opening_named mech attempt.now password names) }
+    ensures { IfOk result (λ value. value ≡ opening_named mech attempt.now password names) }
 {
     match names {
-        None => settled(alloc, b"Invalid user name"),
+        None => immediate_failure(alloc, b"Invalid user name"),
         Some((user, master)) => {
             let vars = vars_for(alloc, user.bytes(), attempt.params)?;
             let proof = login_proof(mech, password);
@@ -94,10 +94,10 @@ fn opening_named(
 }
 
 // A failure for this reason, of nobody.
-fn settled(alloc: Global, reason: &[u8]) -> Result<Opening, AllocError>
-    ensures { IfOk result (λ opening. opening ≡ Opening.Settled (words.fails_for reason.now)) }
+fn immediate_failure(alloc: Global, reason: &[u8]) -> Result<Opening, AllocError>
+    ensures { IfOk result (λ value. value ≡ Opening.Immediate (fails_for reason.now)) }
 {
-    Ok(Opening::Settled(Stage::Decided(Decision::Failure {
+    Ok(Opening::Immediate(Stage::Decided(Decision::Failure {
         user: None,
         authz: false,
         temp: false,
@@ -107,7 +107,7 @@ fn settled(alloc: Global, reason: &[u8]) -> Result<Opening, AllocError>
 }
 
 fn login_proof(mech: Mech, password: Option<Text>) -> Proof
-    ensures { result ≡ words.login_proof mech password }
+    ensures { result ≡ login_proof mech password }
 {
     match mech {
         Mech::ScramSha256 => Proof::Scram,
@@ -121,7 +121,7 @@ fn login_proof(mech: Mech, password: Option<Text>) -> Proof
 
 /// What the variables of templates stand for in a request of this user with these parameters.
 pub(crate) fn vars_for(alloc: Global, user: &[u8], params: &Fields) -> Result<Vars, AllocError>
-    ensures { IfOk result (λ vars. vars ≡ words.vars_for user.now params.now) }
+    ensures { IfOk result (λ vars. vars ≡ vars_for user.now params.now) }
 {
     Ok(Vars {
         user: VarText::new(Vec::from_slice(alloc, user)?),

@@ -2,7 +2,7 @@
 
 ghost use Rattle.std.specs.Prelude.{◌≡◌, ◌<◌, ◌^◌, ◌-◌, [], ◌∷◌, Ok, Some, reverse, length, IfOk, IfErr, OnOk, option_map, option_and_then};
 ghost use Rattle.da_base.specs.Words.{nth};
-ghost use Rattle.da_hist.specs.History.{heard, with_due_replied, after};
+ghost use Rattle.da_hist.specs.History.{after_input, with_due_replied, after};
 ghost use Rattle.da_hist.specs.Effects.{effects};
 ghost use Rattle.da_hist.specs.Legal.{last_moment};
 ghost use Rattle.da_hist.specs.Play.{hits_for, outputs_with};
@@ -19,7 +19,7 @@ use crate::queries::query_with;
 use crate::refusals::input_refusal;
 use crate::replay::replay;
 use crate::settings::{Goal, Settings};
-use crate::state::State;
+use crate::state::Tables;
 use da_fields::Query;
 use std::alloc::{AllocError, Global};
 use std::marker::Model;
@@ -35,19 +35,19 @@ pub(crate) struct Entered {
 fn hits_of(
     alloc: Global,
     settings: &Settings,
-    state: &State,
+    tables: &Tables,
     moment: u64,
     input: &Input,
 ) -> Result<Vec<u32>, AllocError>
-    requires requests { length state.now.requests < 2 ^ 32 - 1 }
-    requires connections { length state.now.connections < 2 ^ 32 - 1 }
-    requires queries { length state.now.queries < 2 ^ 32 - 1 }
-    ensures { IfOk result (λ hits. hits.items ≡ hits_for settings.now moment state.now (heard settings.now moment input.now (with_due_replied settings.now moment state.now))) }
+    requires requests { length tables.now.requests < 2 ^ 32 - 1 }
+    requires connections { length tables.now.connections < 2 ^ 32 - 1 }
+    requires queries { length tables.now.queries < 2 ^ 32 - 1 }
+    ensures { IfOk result (λ hits. hits.items ≡ hits_for settings.now moment tables.now (after_input settings.now moment input.now (with_due_replied settings.now moment tables.now))) }
 {
-    let mut ahead = state.copy(alloc)?;
+    let mut ahead = tables.copy(alloc)?;
     ahead.reply_due(alloc, settings, moment)?;
-    let heard = ahead.hear(alloc, settings, moment, input)?;
-    let Some(number) = heard.mover else {
+    let effect = ahead.apply_input(alloc, settings, moment, input)?;
+    let Some(number) = effect.continued else {
         return Ok(Vec::new(alloc));
     };
     match row(&ahead.requests.items, number) {
@@ -55,7 +55,7 @@ fn hits_of(
             alloc,
             settings,
             moment,
-            state,
+            tables,
             database_count(settings),
             request,
         ),
@@ -65,16 +65,16 @@ fn hits_of(
 
 fn query_of(
     alloc: Global,
-    state: &State,
+    tables: &Tables,
     handed_out: Option<u32>,
 ) -> Result<Option<Query>, AllocError>
-    ensures { IfOk result (λ query. query ≡ option_and_then (λ n. option_map (words_query_with n) (nth state.now.queries n)) handed_out) }
+    ensures { IfOk result (λ query. query ≡ option_and_then (λ n. option_map (words_query_with n) (nth tables.now.queries n)) handed_out) }
 {
     let Some(number) = handed_out else {
         return Ok(None);
     };
-    match row(&state.queries.items, number) {
-        Some(asked) => Ok(Some(query_with(alloc, number, asked)?)),
+    match row(&tables.queries.items, number) {
+        Some(query_row) => Ok(Some(query_with(alloc, number, query_row)?)),
         None => Ok(None),
     }
 }
@@ -84,18 +84,18 @@ fn outputs_of(
     settings: &Settings,
     number: u64,
     hits: &Numbers,
-    state: &State,
+    tables: &Tables,
     effects: &Effects,
 ) -> Result<Outputs, AllocError>
-    ensures { IfOk result (λ out. out ≡ outputs_with settings.now number hits.now state.now effects.now) }
+    ensures { IfOk result (λ out. out ≡ outputs_with settings.now number hits.now tables.now effects.now) }
 {
     Ok(Outputs {
         entry: number,
         conn: effects.opened,
-        query: query_of(alloc, state, effects.handed_out)?,
+        query: query_of(alloc, tables, effects.handed_out)?,
         hits: hits.copy(alloc)?,
-        due_lines: Sent::new(due_lines(alloc, settings, state, effects)?),
-        lines: Sent::new(own_lines(alloc, settings, state, effects)?),
+        due_lines: Sent::new(due_lines(alloc, settings, tables, effects)?),
+        lines: Sent::new(own_lines(alloc, settings, tables, effects)?),
         closed: effects.closed,
     })
 }
@@ -104,25 +104,25 @@ fn outputs_of(
 fn enter(
     alloc: Global,
     settings: &Settings,
-    mut state: State,
+    mut tables: Tables,
     number: u64,
     moment: u64,
     input: Input,
 ) -> Result<Entered, AllocError>
-    requires requests { length state.requests < 2 ^ 32 - 1 }
-    requires connections { length state.connections < 2 ^ 32 - 1 }
-    requires queries { length state.queries < 2 ^ 32 - 1 }
-    ensures entry { IfOk result (λ entered. entered.entry ≡ record { moment = moment; input = input; hits = hits_for settings.now moment state (heard settings.now moment input (with_due_replied settings.now moment state)) }) }
-    ensures outputs { IfOk result (λ entered. entered.outputs ≡ outputs_with settings.now number entered.entry.hits (after settings.now state entered.entry) (effects settings.now state entered.entry)) }
+    requires requests { length tables.requests < 2 ^ 32 - 1 }
+    requires connections { length tables.connections < 2 ^ 32 - 1 }
+    requires queries { length tables.queries < 2 ^ 32 - 1 }
+    ensures entry { IfOk result (λ entered. entered.entry ≡ record { moment = moment; input = input; hits = hits_for settings.now moment tables_of (after_input settings.now moment input (with_due_replied settings.now moment tables)) }) }
+    ensures outputs { IfOk result (λ entered. entered.outputs ≡ outputs_with settings.now number entered.entry.hits (after settings.now tables entered.entry) (effects settings.now tables entered.entry)) }
 {
-    let hits = Numbers::new(hits_of(alloc, settings, &state, moment, &input)?);
+    let hits = Numbers::new(hits_of(alloc, settings, &tables, moment, &input)?);
     let entry = Entry {
         moment,
         input,
         hits,
     };
-    let effects = state.enter(alloc, settings, &entry)?;
-    let outputs = outputs_of(alloc, settings, number, &entry.hits, &state, &effects)?;
+    let effects = tables.enter(alloc, settings, &entry)?;
+    let outputs = outputs_of(alloc, settings, number, &entry.hits, &tables, &effects)?;
     Ok(Entered { entry, outputs })
 }
 
@@ -156,11 +156,11 @@ fn next_of(
     if course.left == 0 {
         return Err(Refused::HistoryFull);
     }
-    if let Some(refused) = input_refusal(settings, &course.state, moment, &input) {
+    if let Some(refused) = input_refusal(settings, &course.tables, moment, &input) {
         return Err(refused);
     }
     let number = entries.len() as u64 + 1;
-    match enter(alloc, settings, course.state, number, moment, input) {
+    match enter(alloc, settings, course.tables, number, moment, input) {
         Ok(entered) => Ok(entered),
         Err(_) => Err(Refused::NoMemory),
     }

@@ -3,22 +3,22 @@
 ghost use Rattle.std.specs.Prelude.{◌≡◌, ◌<◌, ◌-◌, ◌^◌, ◌∷◌, Bool, List, Some, IfOk, OnOk, length, not};
 ghost use Rattle.da_keys.specs.Keys.{with_key as keys_with};
 ghost use Rattle.da_base.specs.Words.{nth, changed_nth, passes_option};
-ghost use Rattle.da_hist.specs.InPlace.{answered_with, heard_in};
-ghost use Rattle.da_hist.specs.Queries as words;
-ghost use Rattle.da_hist.specs.Requests as about;
+ghost use Rattle.da_hist.specs.Bridges.{answered_with, with_effect};
+ghost use Rattle.da_hist.specs.Queries.{answered_by, answers_request, query_password, first_waiting, is_kept, is_running, is_running_in, is_waiting, kept_in, key_of, ttl_of, query_with, recorded_answer, after_answer, after_answer_for, compared_by, use_comparison, with_answer, with_late_answer, with_new_query, with_comparison};
+ghost use Rattle.da_hist.specs.Requests.{is_authentication, is_undecided};
 ghost use Rattle.da_hist.specs.Tables.{with_query};
-ghost use Rattle.da_hist.specs.declared.state.Asked.{Asked as SomeAsked};
+ghost use Rattle.da_hist.specs.declared.state.QueryRow.{QueryRow as SomeQueryRow};
 ghost use Rattle.da_hist.specs.declared.state.Question.{Question as SomeQuestion};
 ghost use Rattle.da_hist.specs.declared.state.Request.{Request as SomeRequest};
 ghost use Rattle.da_passdb.specs.Outcomes.{proof_password as password_of};
 
-use crate::heard::Heard;
+use crate::input_effect::InputEffect;
 use crate::numbered::{row, row_index};
 use crate::settings::Settings;
-use crate::state::{Asked, Body, Queries, Question, Request, Requests, State, Tests};
+use crate::state::{QueryRow, Body, Queries, Question, Request, Requests, Tables, Comparisons};
 use da_keys::{Key, with_key};
 use da_fields::{Answer, Query, QueryKind, Text, Why};
-use da_passdb::{Login, Proof, password_test};
+use da_passdb::{Login, Proof, password_comparison};
 use da_query::fit;
 use std::alloc::{AllocError, Global};
 
@@ -35,22 +35,22 @@ fn is_wanted(requests: &[Request], number: u32) -> bool
 }
 
 /// Whether the query waits to be taken. It waits no more once its request is cancelled.
-pub(crate) fn is_waiting(state: &State, asked: &Asked) -> bool
-    ensures { result ≡ words.is_waiting state.now asked.now }
+pub(crate) fn is_waiting(tables: &Tables, query_row: &QueryRow) -> bool
+    ensures { result ≡ is_waiting tables.now query_row.now }
 {
-    asked.taken.is_none()
-        && asked.answer.is_none()
-        && is_wanted(&state.requests.items, asked.request)
+    query_row.taken.is_none()
+        && query_row.answer.is_none()
+        && is_wanted(&tables.requests.items, query_row.request)
 }
 
 /// The number of the first query that waits, 0 where none does.
-pub(crate) fn first_waiting(state: &State) -> u32
-    requires { length state.now.queries < 2 ^ 32 - 1 }
-    ensures { result ≡ words.first_waiting state.now }
+pub(crate) fn first_waiting(tables: &Tables) -> u32
+    requires { length tables.now.queries < 2 ^ 32 - 1 }
+    ensures { result ≡ first_waiting tables.now }
 {
     let mut before: u32 = 0;
-    for asked in &state.queries.items {
-        if is_waiting(state, asked) {
+    for query_row in &tables.queries.items {
+        if is_waiting(tables, query_row) {
             return before + 1;
         }
         before += 1;
@@ -59,35 +59,35 @@ pub(crate) fn first_waiting(state: &State) -> u32
 }
 
 /// Whether the query runs: it was taken and has no answer.
-pub(crate) fn is_running(asked: &Asked) -> bool
-    ensures { result ≡ words.is_running asked.now }
+pub(crate) fn is_running(query_row: &QueryRow) -> bool
+    ensures { result ≡ is_running query_row.now }
 {
-    asked.taken.is_some() && asked.answer.is_none()
+    query_row.taken.is_some() && query_row.answer.is_none()
 }
 
 /// Whether the query of this number runs.
-pub(crate) fn is_running_in(state: &State, query: u32) -> bool
-    ensures { result ≡ words.is_running_in state.now query }
+pub(crate) fn is_running_in(tables: &Tables, query: u32) -> bool
+    ensures { result ≡ is_running_in tables.now query }
 {
-    match row(&state.queries.items, query) {
-        Some(asked) => is_running(asked),
+    match row(&tables.queries.items, query) {
+        Some(query_row) => is_running(query_row),
         None => false,
     }
 }
 
 /// The query as it is handed out.
-pub(crate) fn query_with(alloc: Global, number: u32, asked: &Asked) -> Result<Query, AllocError>
-    ensures { IfOk result (λ query. query ≡ words.query_with number asked.now) }
+pub(crate) fn query_with(alloc: Global, number: u32, query_row: &QueryRow) -> Result<Query, AllocError>
+    ensures { IfOk result (λ query. query ≡ query_with number query_row.now) }
 {
-    let password = match &asked.password {
+    let password = match &query_row.password {
         Some(password) => Some(password.copy(alloc)?),
         None => None,
     };
     Ok(Query {
         number,
-        kind: asked.question.kind,
-        db: asked.question.db,
-        user: asked.question.user.copy(alloc)?,
+        kind: query_row.question.kind,
+        db: query_row.question.db,
+        user: query_row.question.user.copy(alloc)?,
         password,
     })
 }
@@ -105,13 +105,13 @@ fn proof_password(proof: Proof) -> Option<Text>
 }
 
 // The password that a query of this kind hands to a program.
-fn asked_password(
+fn query_password(
     alloc: Global,
     settings: &Settings,
     request: &Request,
     kind: QueryKind,
 ) -> Result<Option<Text>, AllocError>
-    ensures { IfOk result (λ password. password ≡ words.asked_password settings.now request.now kind) }
+    ensures { IfOk result (λ password. password ≡ query_password settings.now request.now kind) }
 {
     match kind {
         QueryKind::Check => match request.login(alloc, settings)? {
@@ -126,23 +126,23 @@ fn asked_password(
 pub(crate) fn add_query(
     alloc: Global,
     settings: &Settings,
-    state: &mut State,
+    tables: &mut Tables,
     number: u32,
     question: Question,
 ) -> Result<(), AllocError>
-    ensures { (r : SomeRequest) → nth state.old.requests number ≡ Some r → OnOk result (state.new ≡ words.with_new_query settings.now number r question state.old) }
+    ensures { (r : SomeRequest) → nth tables.old.requests number ≡ Some r → OnOk result (tables.new ≡ with_new_query settings.now number r question tables.old) }
 {
-    let password = match row(&state.requests.items, number) {
-        Some(request) => asked_password(alloc, settings, request, question.kind)?,
+    let password = match row(&tables.requests.items, number) {
+        Some(request) => query_password(alloc, settings, request, question.kind)?,
         None => None,
     };
-    state.queries.items.push(Asked {
+    tables.queries.items.push(QueryRow {
         request: number,
         question,
         password,
         taken: None,
         answer: None,
-        tests: Tests {
+        comparisons: Comparisons {
             items: Vec::new(alloc),
         },
     })?;
@@ -153,7 +153,7 @@ pub(crate) fn add_query(
 
 /// The answer as it is recorded: one that doesn't fit its query is malformed.
 pub(crate) fn recorded_answer(kind: QueryKind, answer: Answer) -> Answer
-    ensures { result ≡ words.recorded_answer kind answer }
+    ensures { result ≡ recorded_answer kind answer }
 {
     if fit(kind, &answer) {
         answer
@@ -164,7 +164,7 @@ pub(crate) fn recorded_answer(kind: QueryKind, answer: Answer) -> Answer
 
 /// Whether the cache looks at the answer: one with a stored password or a user's fields, or that there is no such user.
 pub(crate) fn is_kept(kind: QueryKind, answer: &Answer) -> bool
-    ensures { result ≡ words.is_kept kind answer.now }
+    ensures { result ≡ is_kept kind answer.now }
 {
     match answer {
         Answer::Found { .. } | Answer::Unknown => match kind {
@@ -176,8 +176,8 @@ pub(crate) fn is_kept(kind: QueryKind, answer: &Answer) -> bool
 }
 
 /// How long the answer may be repeated, in milliseconds.
-pub(crate) fn life(settings: &Settings, answer: &Answer) -> u64
-    ensures { result ≡ words.life settings.now answer.now }
+pub(crate) fn ttl_of(settings: &Settings, answer: &Answer) -> u64
+    ensures { result ≡ ttl_of settings.now answer.now }
 {
     match answer {
         Answer::Found { .. } => settings.cache_ttl,
@@ -188,7 +188,7 @@ pub(crate) fn life(settings: &Settings, answer: &Answer) -> u64
 
 /// The key under which the question's answers are kept.
 pub(crate) fn key_of(alloc: Global, question: &Question) -> Result<Key, AllocError>
-    ensures { IfOk result (λ key. key ≡ words.key_of question.now) }
+    ensures { IfOk result (λ key. key ≡ key_of question.now) }
 {
     Ok(Key {
         kind: question.kind,
@@ -198,7 +198,7 @@ pub(crate) fn key_of(alloc: Global, question: &Question) -> Result<Key, AllocErr
 }
 
 fn is_authentication(body: &Body) -> bool
-    ensures { result ≡ about.is_authentication body.now }
+    ensures { result ≡ is_authentication body.now }
 {
     match body {
         Body::Authenticates { .. } => true,
@@ -207,14 +207,14 @@ fn is_authentication(body: &Body) -> bool
 }
 
 /// Whether the request's use of the answer checks a password, and then whether it matches.
-pub(crate) fn use_test(
+pub(crate) fn use_comparison(
     alloc: Global,
     settings: &Settings,
     request: &Request,
     question: &Question,
     answer: &Answer,
 ) -> Result<Option<bool>, AllocError>
-    ensures { IfOk result (λ test. test ≡ words.use_test settings.now request.now question.now answer.now) }
+    ensures { IfOk result (λ comparison. comparison ≡ use_comparison settings.now request.now question.now answer.now) }
 {
     if !is_authentication(&request.body) {
         return Ok(None);
@@ -225,11 +225,11 @@ pub(crate) fn use_test(
     let Some(db) = row(settings.passdbs(), question.db) else {
         return Ok(None);
     };
-    password_test(alloc, db, &login, question.checked, answer)
+    password_comparison(alloc, db, &login, question.checked, answer)
 }
 
 // What the use of the answer by its own request finds.
-fn own_test(
+fn own_comparison(
     alloc: Global,
     settings: &Settings,
     requests: &[Request],
@@ -237,27 +237,27 @@ fn own_test(
     question: &Question,
     answer: &Answer,
 ) -> Result<Option<bool>, AllocError>
-    ensures { IfOk result (λ test. (tests : List Bool) → words.with_test test tests ≡ words.tested_by settings.now (nth requests.now number) question.now answer.now tests) }
+    ensures { IfOk result (λ comparison. (comparisons : List Bool) → with_comparison comparison comparisons ≡ compared_by settings.now (nth requests.now number) question.now answer.now comparisons) }
 {
     match row(requests, number) {
-        Some(request) => use_test(alloc, settings, request, question, answer),
+        Some(request) => use_comparison(alloc, settings, request, question, answer),
         None => Ok(None),
     }
 }
 
 /// What a use found is put first.
-pub(crate) fn add_test(tests: &mut Tests, test: Option<bool>) -> Result<(), AllocError>
-    ensures { OnOk result (tests.new ≡ words.with_test test tests.old) }
+pub(crate) fn add_comparison(comparisons: &mut Comparisons, comparison: Option<bool>) -> Result<(), AllocError>
+    ensures { OnOk result (comparisons.new ≡ with_comparison comparison comparisons.old) }
 {
-    if let Some(matched) = test {
-        tests.items.insert(0, matched)?;
+    if let Some(matched) = comparison {
+        comparisons.items.insert(0, matched)?;
     }
     Ok(())
 }
 
 /// The request has this answer under its database.
 pub(crate) fn add_answer(request: &mut Request, db: u32, answer: Answer) -> Result<(), AllocError>
-    ensures { OnOk result (request.new ≡ words.with_answer db answer request.old) }
+    ensures { OnOk result (request.new ≡ with_answer db answer request.old) }
 {
     request.answers.items.push((db, answer))?;
     Ok(())
@@ -265,15 +265,15 @@ pub(crate) fn add_answer(request: &mut Request, db: u32, answer: Answer) -> Resu
 
 // The answer stands with its query, and so does what a use found.
 fn put_answer(
-    asked: &mut Asked,
+    query_row: &mut QueryRow,
     answer: Answer,
     moment: u64,
-    test: Option<bool>,
+    comparison: Option<bool>,
 ) -> Result<(), AllocError>
-    ensures { OnOk result (asked.new ≡ answered_with moment test answer asked.old) }
+    ensures { OnOk result (query_row.new ≡ answered_with moment comparison answer query_row.old) }
 {
-    asked.answer = Some((answer, moment));
-    add_test(&mut asked.tests, test)
+    query_row.answer = Some((answer, moment));
+    add_comparison(&mut query_row.comparisons, comparison)
 }
 
 // The answer stands with the query of this number, and so does what a use found.
@@ -282,15 +282,15 @@ fn put_in_row(
     number: u32,
     answer: Answer,
     moment: u64,
-    test: Option<bool>,
+    comparison: Option<bool>,
 ) -> Result<(), AllocError>
-    ensures { OnOk result (queries.new ≡ changed_nth (answered_with moment test answer) queries.old number) }
+    ensures { OnOk result (queries.new ≡ changed_nth (answered_with moment comparison answer) queries.old number) }
 {
     let Some(index) = row_index(&queries.items, number) else {
         return Ok(());
     };
-    let asked = &mut queries.items[index];
-    put_answer(asked, answer, moment, test)
+    let query_row = &mut queries.items[index];
+    put_answer(query_row, answer, moment, comparison)
 }
 
 // The answer stands with the query of this number, and so does what its own use found.
@@ -303,20 +303,20 @@ fn answer_row(
     requests: &Requests,
     queries: &mut Queries,
 ) -> Result<(), AllocError>
-    ensures { (a : SomeAsked) → nth queries.old number ≡ Some a → OnOk result (queries.new ≡ changed_nth (words.answered_by settings.now moment (nth requests.now a.request) answer) queries.old number) }
+    ensures { (a : SomeQueryRow) → nth queries.old number ≡ Some a → OnOk result (queries.new ≡ changed_nth (answered_by settings.now moment (nth requests.now a.request) answer) queries.old number) }
 {
-    let Some(asked) = row(&queries.items, number) else {
+    let Some(query_row) = row(&queries.items, number) else {
         return Ok(());
     };
-    let test = own_test(
+    let comparison = own_comparison(
         alloc,
         settings,
         &requests.items,
-        asked.request,
-        &asked.question,
+        query_row.request,
+        &query_row.question,
         &answer,
     )?;
-    put_in_row(queries, number, answer, moment, test)
+    put_in_row(queries, number, answer, moment, comparison)
 }
 
 /// The answer stands with the query of this number, and so does what its own use found.
@@ -326,9 +326,9 @@ pub(crate) fn answer_query(
     moment: u64,
     number: u32,
     answer: Answer,
-    state: &mut State,
+    tables: &mut Tables,
 ) -> Result<(), AllocError>
-    ensures { (a : SomeAsked) → nth state.old.queries number ≡ Some a → OnOk result (state.new ≡ with_query (words.answered_by settings.now moment (nth state.old.requests a.request) answer) number state.old) }
+    ensures { (a : SomeQueryRow) → nth tables.old.queries number ≡ Some a → OnOk result (tables.new ≡ with_query (answered_by settings.now moment (nth tables.old.requests a.request) answer) number tables.old) }
 {
     answer_row(
         alloc,
@@ -336,14 +336,14 @@ pub(crate) fn answer_query(
         moment,
         number,
         answer,
-        &state.requests,
-        &mut state.queries,
+        &tables.requests,
+        &mut tables.queries,
     )
 }
 
 // Whether the request of this number is there, open and not decided.
 fn is_undecided_in(requests: &[Request], number: u32) -> bool
-    ensures { result ≡ passes_option about.is_undecided (nth requests.now number) }
+    ensures { result ≡ passes_option is_undecided (nth requests.now number) }
 {
     match row(requests, number) {
         Some(request) => request.is_undecided(),
@@ -358,7 +358,7 @@ pub(crate) fn answer_in_row(
     db: u32,
     answer: Answer,
 ) -> Result<(), AllocError>
-    ensures { OnOk result (requests.new ≡ changed_nth (words.with_answer db answer) requests.old number) }
+    ensures { OnOk result (requests.new ≡ changed_nth (with_answer db answer) requests.old number) }
 {
     let Some(index) = row_index(&requests.items, number) else {
         return Ok(());
@@ -369,7 +369,7 @@ pub(crate) fn answer_in_row(
 
 // A request that isn't decided has this answer under its database.
 fn add_late_answer(request: &mut Request, db: u32, answer: Answer) -> Result<(), AllocError>
-    ensures { OnOk result (request.new ≡ words.with_late_answer db answer request.old) }
+    ensures { OnOk result (request.new ≡ with_late_answer db answer request.old) }
 {
     if request.decided.is_some() {
         return Ok(());
@@ -384,7 +384,7 @@ fn late_answer_in_row(
     db: u32,
     answer: Answer,
 ) -> Result<(), AllocError>
-    ensures { OnOk result (requests.new ≡ changed_nth (words.with_late_answer db answer) requests.old number) }
+    ensures { OnOk result (requests.new ≡ changed_nth (with_late_answer db answer) requests.old number) }
 {
     let Some(index) = row_index(&requests.items, number) else {
         return Ok(());
@@ -399,58 +399,58 @@ pub(crate) fn answer_request(
     number: u32,
     db: u32,
     answer: Answer,
-    state: &mut State,
-) -> Result<Heard, AllocError>
-    ensures { (q : SomeQuestion) → q.db ≡ db → IfOk result (λ heard. heard_in state.new heard ≡ words.answers_request number q answer state.old) }
+    tables: &mut Tables,
+) -> Result<InputEffect, AllocError>
+    ensures { (q : SomeQuestion) → q.db ≡ db → IfOk result (λ effect. with_effect tables.new effect ≡ answers_request number q answer tables.old) }
 {
-    if is_undecided_in(&state.requests.items, number) {
-        answer_in_row(&mut state.requests, number, db, answer)?;
-        return Ok(Heard::moving(number));
+    if is_undecided_in(&tables.requests.items, number) {
+        answer_in_row(&mut tables.requests, number, db, answer)?;
+        return Ok(InputEffect::continuing(number));
     }
-    late_answer_in_row(&mut state.requests, number, db, answer)?;
-    Ok(Heard::moving_none())
+    late_answer_in_row(&mut tables.requests, number, db, answer)?;
+    Ok(InputEffect::continuing_none())
 }
 
 // The answer to the running query of this number is recorded.
-fn record_for(
+fn record_answer_for(
     alloc: Global,
     settings: &Settings,
     moment: u64,
     number: u32,
     answer: Answer,
-    state: &mut State,
-) -> Result<Heard, AllocError>
-    ensures { (a : SomeAsked) → nth state.old.queries number ≡ Some a → IfOk result (λ heard. heard_in state.new heard ≡ words.records_for settings.now moment number a answer state.old) }
+    tables: &mut Tables,
+) -> Result<InputEffect, AllocError>
+    ensures { (a : SomeQueryRow) → nth tables.old.queries number ≡ Some a → IfOk result (λ effect. with_effect tables.new effect ≡ after_answer_for settings.now moment number a answer tables.old) }
 {
-    let Some(asked) = row(&state.queries.items, number) else {
-        return Ok(Heard::moving_none());
+    let Some(query_row) = row(&tables.queries.items, number) else {
+        return Ok(InputEffect::continuing_none());
     };
-    let request = asked.request;
-    let db = asked.question.db;
+    let request = query_row.request;
+    let db = query_row.question.db;
     let same = answer.copy(alloc)?;
-    answer_query(alloc, settings, moment, number, answer, state)?;
-    answer_request(request, db, same, state)
+    answer_query(alloc, settings, moment, number, answer, tables)?;
+    answer_request(request, db, same, tables)
 }
 
 /// The answer to the query of this number is recorded, where that runs.
-pub(crate) fn record(
+pub(crate) fn record_answer(
     alloc: Global,
     settings: &Settings,
     moment: u64,
     number: u32,
     answer: Answer,
-    state: &mut State,
-) -> Result<Heard, AllocError>
-    ensures { IfOk result (λ heard. heard_in state.new heard ≡ words.records settings.now moment number answer (nth state.old.queries number) state.old) }
+    tables: &mut Tables,
+) -> Result<InputEffect, AllocError>
+    ensures { IfOk result (λ effect. with_effect tables.new effect ≡ after_answer settings.now moment number answer (nth tables.old.queries number) tables.old) }
 {
-    let Some(asked) = row(&state.queries.items, number) else {
-        return Ok(Heard::moving_none());
+    let Some(query_row) = row(&tables.queries.items, number) else {
+        return Ok(InputEffect::continuing_none());
     };
-    if !is_running(asked) {
-        return Ok(Heard::moving_none());
+    if !is_running(query_row) {
+        return Ok(InputEffect::continuing_none());
     }
-    let recorded = recorded_answer(asked.question.kind, answer);
-    record_for(alloc, settings, moment, number, recorded, state)
+    let recorded = recorded_answer(query_row.question.kind, answer);
+    record_answer_for(alloc, settings, moment, number, recorded, tables)
 }
 
 // ---- what is kept of it
@@ -459,14 +459,14 @@ pub(crate) fn record(
 fn keep_key(
     settings: &Settings,
     number: u32,
-    life: u64,
+    ttl: u64,
     key: Key,
-    state: &mut State,
+    tables: &mut Tables,
 ) -> Result<(), AllocError>
-    ensures { OnOk result (state.new ≡ record state.old { recordings = number ∷ state.old.recordings; keys = keys_with settings.now.cache_size life key state.old.keys }) }
+    ensures { OnOk result (tables.new ≡ record tables.old { cacheable = number ∷ tables.old.cacheable; keys = keys_with settings.now.cache_size ttl key tables.old.keys }) }
 {
-    state.recordings.put_first(number)?;
-    with_key(&mut state.keys.items, settings.cache_size, life, key)
+    tables.cacheable.put_first(number)?;
+    with_key(&mut tables.keys.items, settings.cache_size, ttl, key)
 }
 
 /// The answer of this query is kept, where the cache looks at it.
@@ -475,16 +475,16 @@ pub(crate) fn keep(
     settings: &Settings,
     number: u32,
     answer: &Answer,
-    state: &mut State,
+    tables: &mut Tables,
 ) -> Result<(), AllocError>
-    ensures { (a : SomeAsked) → nth state.old.queries number ≡ Some a → OnOk result (state.new ≡ words.kept_in settings.now number a.question answer.now state.old) }
+    ensures { (a : SomeQueryRow) → nth tables.old.queries number ≡ Some a → OnOk result (tables.new ≡ kept_in settings.now number a.question answer.now tables.old) }
 {
-    let Some(asked) = row(&state.queries.items, number) else {
+    let Some(query_row) = row(&tables.queries.items, number) else {
         return Ok(());
     };
-    if !is_kept(asked.question.kind, answer) {
+    if !is_kept(query_row.question.kind, answer) {
         return Ok(());
     }
-    let key = key_of(alloc, &asked.question)?;
-    keep_key(settings, number, life(settings, answer), key, state)
+    let key = key_of(alloc, &query_row.question)?;
+    keep_key(settings, number, ttl_of(settings, answer), key, tables)
 }

@@ -4,7 +4,7 @@ ghost use Rattle.std.specs.Prelude.{◌≡◌, ◌<◌, ◌^◌, ◌-◌, ℕ, l
 ghost use Rattle.da_base.specs.Words.{Bytes};
 ghost use Rattle.da_msgs.specs.declared.kinds.ConnKind.{ConnKind};
 ghost use Rattle.da_hist.specs.declared.input.Input.TheVariants.{Opened};
-ghost use Rattle.da_hist.specs.Play as words;
+ghost use Rattle.da_hist.specs.Play.{input_refusal, late_refusal, unless};
 ghost use Rattle.da_hist.specs.Legal.{late_from};
 
 use crate::input::Input;
@@ -12,19 +12,19 @@ use crate::numbered::row;
 use crate::outputs::Refused;
 use crate::queries::{first_waiting, is_running_in};
 use crate::settings::Settings;
-use crate::state::State;
+use crate::state::Tables;
 
 /// The moment from which the query of this number is late, where it was taken.
-fn moment_of_lateness(settings: &Settings, state: &State, query: u32) -> Option<u64>
-    ensures { result ≡ late_from settings.now state.now query }
+fn moment_of_lateness(settings: &Settings, tables: &Tables, query: u32) -> Option<u64>
+    ensures { result ≡ late_from settings.now tables.now query }
 {
-    let asked = row(&state.queries.items, query)?;
-    let taken = asked.taken?;
+    let query_row = row(&tables.queries.items, query)?;
+    let taken = query_row.taken?;
     Some(taken.saturating_add(settings.query_limit))
 }
 
 fn late_refusal(moment: u64, query: u32, due: Option<u64>) -> Option<Refused>
-    ensures { result ≡ words.late_refusal moment query due }
+    ensures { result ≡ late_refusal moment query due }
 {
     match due {
         Some(due) if due > moment => Some(Refused::NotLate { query, due }),
@@ -33,43 +33,43 @@ fn late_refusal(moment: u64, query: u32, due: Option<u64>) -> Option<Refused>
 }
 
 fn unless(fine: bool, refused: Refused) -> Option<Refused>
-    ensures { result ≡ words.unless fine refused }
+    ensures { result ≡ unless fine refused }
 {
     if fine { None } else { Some(refused) }
 }
 
-fn open_refusal(settings: &Settings, state: &State) -> Option<Refused>
-    requires { length state.now.connections < 2 ^ 32 - 1 }
-    ensures { (kind : ConnKind) (random : Bytes) (moment : ℕ) → result ≡ words.input_refusal settings.now state.now moment (Opened kind random) }
+fn open_refusal(settings: &Settings, tables: &Tables) -> Option<Refused>
+    requires { length tables.now.connections < 2 ^ 32 - 1 }
+    ensures { (kind : ConnKind) (random : Bytes) (moment : ℕ) → result ≡ input_refusal settings.now tables.now moment (Opened kind random) }
 {
-    let count = state.open_count() as u32;
+    let count = tables.open_count() as u32;
     unless(count < settings.connections, Refused::ConnLimit { count })
 }
 
 /// Why the input may not be an entry after these tables, at this moment. `None` where it may.
 pub(crate) fn input_refusal(
     settings: &Settings,
-    state: &State,
+    tables: &Tables,
     moment: u64,
     input: &Input,
 ) -> Option<Refused>
-    requires connections { length state.now.connections < 2 ^ 32 - 1 }
-    requires queries { length state.now.queries < 2 ^ 32 - 1 }
-    ensures { result ≡ words.input_refusal settings.now state.now moment input.now }
+    requires connections { length tables.now.connections < 2 ^ 32 - 1 }
+    requires queries { length tables.now.queries < 2 ^ 32 - 1 }
+    ensures { result ≡ input_refusal settings.now tables.now moment input.now }
 {
     match input {
-        Input::Opened { .. } => open_refusal(settings, state),
+        Input::Opened { .. } => open_refusal(settings, tables),
         Input::Line { conn, .. } | Input::Broken { conn } | Input::Gone { conn } => {
-            unless(state.is_open(*conn), Refused::NoConn { conn: *conn })
+            unless(tables.is_open(*conn), Refused::NoConn { conn: *conn })
         }
-        Input::Take => unless(first_waiting(state) > 0, Refused::NothingWaits),
+        Input::Take => unless(first_waiting(tables) > 0, Refused::NothingWaits),
         Input::Answered { query, .. } => unless(
-            is_running_in(state, *query),
+            is_running_in(tables, *query),
             Refused::NotTaken { query: *query },
         ),
         Input::Late { query } => {
-            if is_running_in(state, *query) {
-                late_refusal(moment, *query, moment_of_lateness(settings, state, *query))
+            if is_running_in(tables, *query) {
+                late_refusal(moment, *query, moment_of_lateness(settings, tables, *query))
             } else {
                 Some(Refused::NotTaken { query: *query })
             }

@@ -1,7 +1,7 @@
 // The replay of a history: the tables at its end, and how much it may still grow.
 
 ghost use Rattle.std.specs.Prelude.{◌≡◌, ◌<◌, ◌+◌, ◌-◌, ◌^◌, length, reverse, sum_by, IfOk};
-ghost use Rattle.da_hist.specs.History.{state};
+ghost use Rattle.da_hist.specs.History.{tables_of};
 ghost use Rattle.da_hist.specs.Legal.{size, input_size};
 ghost use Rattle.da_hist.specs.Effects.{lines};
 
@@ -9,7 +9,7 @@ use crate::effects::{Effects, due_lines, own_lines};
 use crate::input::Entry;
 use crate::settings::Settings;
 use crate::sizes::{after_input, after_lines};
-use crate::state::State;
+use crate::state::Tables;
 use std::alloc::{AllocError, Global};
 
 /// The bytes that an entry counts beside its texts and lines.
@@ -17,9 +17,9 @@ const ENTRY_SIZE: u64 = 64;
 
 /// How far a history has come.
 #[derive(Drop)]
-pub(crate) struct Course {
+pub(crate) struct Replayed {
     /// The tables at its end.
-    pub(crate) state: State,
+    pub(crate) tables: Tables,
     /// How many bytes it may still grow by.
     pub(crate) left: u64,
 }
@@ -27,16 +27,16 @@ pub(crate) struct Course {
 fn left_after(
     alloc: Global,
     settings: &Settings,
-    state: &State,
+    tables: &Tables,
     effects: &Effects,
     entry: &Entry,
     left: u64,
 ) -> Result<u64, AllocError>
-    ensures { IfOk result (λ rest. rest ≡ left - (64 + input_size entry.now.input + sum_by (λ l. length l.1) (lines settings.now state.now effects.now))) }
+    ensures { IfOk result (λ rest. rest ≡ left - (64 + input_size entry.now.input + sum_by (λ l. length l.1) (lines settings.now tables.now effects.now))) }
 {
-    let rest = after_input(left.saturating_sub(ENTRY_SIZE), &entry.input);
-    let rest = after_lines(rest, &due_lines(alloc, settings, state, effects)?);
-    Ok(after_lines(rest, &own_lines(alloc, settings, state, effects)?))
+    let rest = left_after_input(left.saturating_sub(ENTRY_SIZE), &entry.input);
+    let rest = after_lines(rest, &due_lines(alloc, settings, tables, effects)?);
+    Ok(after_lines(rest, &own_lines(alloc, settings, tables, effects)?))
 }
 
 /// Goes through the entries of a history, the oldest first.
@@ -44,16 +44,16 @@ pub(crate) fn replay(
     alloc: Global,
     settings: &Settings,
     entries: &[Entry],
-) -> Result<Course, AllocError>
+) -> Result<Replayed, AllocError>
     requires { length entries.now < 2 ^ 32 - 1 }
-    ensures state { IfOk result (λ c. c.state ≡ state settings.now (reverse entries.now)) }
+    ensures tables { IfOk result (λ c. c.tables ≡ tables_of settings.now (reverse entries.now)) }
     ensures left { IfOk result (λ c. c.left ≡ settings.now.history_bytes - size settings.now (reverse entries.now)) }
 {
-    let mut state = State::new(alloc);
+    let mut tables = Tables::new(alloc);
     let mut left = settings.history_bytes;
     for entry in entries {
-        let effects = state.enter(alloc, settings, entry)?;
-        left = left_after(alloc, settings, &state, &effects, entry, left)?;
+        let effects = tables.enter(alloc, settings, entry)?;
+        left = left_after(alloc, settings, &tables, &effects, entry, left)?;
     }
-    Ok(Course { state, left })
+    Ok(Replayed { tables, left })
 }

@@ -3,7 +3,7 @@
 ghost use Rattle.std.specs.Prelude.{◌≡◌, IfOk, option_map};
 ghost use Rattle.da_base.specs.Words.{to_base64};
 ghost use Rattle.da_msgs.specs.Replies.{reply_line, master_reply_line};
-ghost use Rattle.da_hist.specs.Requests as words;
+ghost use Rattle.da_hist.specs.Requests.{challenge_line, final_line};
 
 use crate::state::Decision;
 use base64::engine::general_purpose::STANDARD;
@@ -13,7 +13,7 @@ use std::alloc::{AllocError, Global};
 
 /// The line of a final reply to the request of this id, without its LF.
 pub(crate) fn final_line(alloc: Global, id: u32, decision: &Decision) -> Result<Text, AllocError>
-    ensures { IfOk result (λ line. line ≡ words.final_line id decision.now) }
+    ensures { IfOk result (λ line. line ≡ final_line id decision.now) }
 {
     match decision {
         Decision::Success { user, fields, last } => success_line(alloc, id, user, fields, last),
@@ -74,7 +74,7 @@ fn success_line(
 
 /// The line of a challenge in the request of this id, without its LF.
 pub(crate) fn challenge_line(alloc: Global, id: u32, text: &[u8]) -> Result<Text, AllocError>
-    ensures { IfOk result (λ line. line ≡ words.challenge_line id text.now) }
+    ensures { IfOk result (λ line. line ≡ challenge_line id text.now) }
 {
     let text = coded(alloc, text)?;
     printed(alloc, &Reply::Cont { id, text })

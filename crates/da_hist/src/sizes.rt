@@ -1,7 +1,7 @@
 // How much a history may still grow.
 
 ghost use Rattle.std.specs.Prelude.{◌≡◌, ◌-◌, length, sum_by};
-ghost use Rattle.da_hist.specs.Legal as words;
+ghost use Rattle.da_hist.specs.Legal.{answer_size, input_size, pairs_size};
 
 use crate::input::Input;
 use da_fields::{Answer, Fields, Text};
@@ -14,7 +14,7 @@ fn spend(left: u64, length: usize) -> u64
 }
 
 fn after_fields(left: u64, fields: &Fields) -> u64
-    ensures { result ≡ left - words.pairs_size fields.now }
+    ensures { result ≡ left - pairs_size fields.now }
 {
     let mut rest = left;
     for pair in fields.pairs() {
@@ -24,7 +24,7 @@ fn after_fields(left: u64, fields: &Fields) -> u64
 }
 
 fn after_answer(left: u64, answer: &Answer) -> u64
-    ensures { result ≡ left - words.answer_size answer.now }
+    ensures { result ≡ left - answer_size answer.now }
 {
     match answer {
         Answer::Found { stored, fields } => after_fields(spend(left, stored.bytes().len()), fields),
@@ -34,8 +34,8 @@ fn after_answer(left: u64, answer: &Answer) -> u64
 }
 
 /// What is left of a number of bytes after the texts of this input.
-pub(crate) fn after_input(left: u64, input: &Input) -> u64
-    ensures { result ≡ left - words.input_size input.now }
+pub(crate) fn left_after_input(left: u64, input: &Input) -> u64
+    ensures { result ≡ left - input_size input.now }
 {
     match input {
         Input::Line { text, .. } => spend(left, text.bytes().len()),

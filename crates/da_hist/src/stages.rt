@@ -3,8 +3,8 @@
 ghost use Rattle.std.specs.Prelude.{◌≡◌, IfOk, codes, is_some, option_and_then};
 ghost use Rattle.da_fields.specs.Answers.{answer_fields};
 ghost use Rattle.da_fields.specs.FieldList.{field};
-ghost use Rattle.da_hist.specs.Attempts as of_attempts;
-ghost use Rattle.da_hist.specs.Requests as words;
+ghost use Rattle.da_hist.specs.Attempts.{login_in, said};
+ghost use Rattle.da_hist.specs.Requests.{attempt_by, decision, due_moment, grant_stage, has_nodelay, is_due, is_held, login_of, lookup_stage, reply_delay, request_stage};
 
 use crate::attempts::{Attempt, attempt_stage};
 use crate::lists::Texts;
@@ -22,7 +22,7 @@ impl Request {
     /// Where the request stands, by what is known of it alone.
     #[tactic(auto, unfolding(crate::specs::Requests::request_stage))]
     pub(crate) fn stage(&self, alloc: Global, settings: &Settings) -> Result<Stage, AllocError>
-        ensures { IfOk result (λ stage. stage ≡ words.request_stage settings.now self.now) }
+        ensures { IfOk result (λ stage. stage ≡ request_stage settings.now self.now) }
     {
         match &self.body {
             Body::Authenticates {
@@ -46,7 +46,7 @@ impl Request {
         alloc: Global,
         settings: &Settings,
     ) -> Result<Option<Decision>, AllocError>
-        ensures { IfOk result (λ decision. decision ≡ words.decision settings.now self.now) }
+        ensures { IfOk result (λ value. value ≡ decision settings.now self.now) }
     {
         match self.stage(alloc, settings)? {
             Stage::Decided(decision) => Ok(Some(decision)),
@@ -61,7 +61,7 @@ impl Request {
         alloc: Global,
         settings: &Settings,
     ) -> Result<Option<Login>, AllocError>
-        ensures { IfOk result (λ login. login ≡ words.login_of settings.now self.now) }
+        ensures { IfOk result (λ login. login ≡ login_of settings.now self.now) }
     {
         match &self.body {
             Body::Authenticates {
@@ -84,7 +84,7 @@ impl Request {
         alloc: Global,
         settings: &Settings,
     ) -> Result<Option<u64>, AllocError>
-        ensures { IfOk result (λ due. due ≡ words.due_moment settings.now self.now) }
+        ensures { IfOk result (λ due. due ≡ due_moment settings.now self.now) }
     {
         match self.decided {
             Some(moment) => {
@@ -103,7 +103,7 @@ impl Request {
         settings: &Settings,
         moment: u64,
     ) -> Result<bool, AllocError>
-        ensures { IfOk result (λ due. due ≡ words.is_due settings.now moment self.now) }
+        ensures { IfOk result (λ due. due ≡ is_due settings.now moment self.now) }
     {
         if !self.is_held() {
             return Ok(false);
@@ -116,7 +116,7 @@ impl Request {
 
     // Decided, not cancelled and not replied.
     fn is_held(&self) -> bool
-        ensures { result ≡ words.is_held self.now }
+        ensures { result ≡ is_held self.now }
     {
         self.decided.is_some() && !self.is_cancelled && self.replied.is_none()
     }
@@ -124,7 +124,7 @@ impl Request {
     // How long the decision is held back, in milliseconds.
     #[tactic(auto, unfolding(crate::specs::Requests::reply_delay))]
     fn reply_delay(&self, alloc: Global, settings: &Settings) -> Result<u64, AllocError>
-        ensures { IfOk result (λ delay. delay ≡ words.reply_delay settings.now self.now) }
+        ensures { IfOk result (λ delay. delay ≡ reply_delay settings.now self.now) }
     {
         if has_nodelay(&self.answers) {
             return Ok(0);
@@ -145,7 +145,7 @@ fn attempt_by<'a>(
     resp: &Option<Text>,
     texts: &[Text],
 ) -> Result<Attempt<'a>, AllocError>
-    ensures { IfOk result (λ attempt. attempt ≡ words.attempt_by mech request.now params.now resp.now texts.now) }
+    ensures { IfOk result (λ attempt. attempt ≡ attempt_by mech request.now params.now resp.now texts.now) }
 {
     let messages = messages_by(alloc, mech, resp, texts)?;
     Ok(Attempt {
@@ -164,7 +164,7 @@ fn messages_by(
     resp: &Option<Text>,
     texts: &[Text],
 ) -> Result<Option<Texts>, AllocError>
-    ensures { IfOk result (λ messages. messages ≡ option_and_then (λ m. of_attempts.said m resp.now texts.now) mech) }
+    ensures { IfOk result (λ messages. messages ≡ option_and_then (λ m. said m resp.now texts.now) mech) }
 {
     match mech {
         Some(mech) => said(alloc, mech, resp, texts),
@@ -173,10 +173,10 @@ fn messages_by(
 }
 
 fn login_in(opening: Opening) -> Option<Login>
-    ensures { result ≡ of_attempts.login_in opening }
+    ensures { result ≡ login_in opening }
 {
     match opening {
-        Opening::Settled(_) => None,
+        Opening::Immediate(_) => None,
         Opening::LogsIn(_, login) => Some(login),
     }
 }
@@ -187,7 +187,7 @@ fn grant_stage(
     answers: &Answers,
     grant: &Option<Grant>,
 ) -> Result<Stage, AllocError>
-    ensures { IfOk result (λ stage. stage ≡ words.grant_stage settings.now answers.now grant.now) }
+    ensures { IfOk result (λ stage. stage ≡ grant_stage settings.now answers.now grant.now) }
 {
     match grant {
         None => Ok(Stage::Decided(Decision::UserUnknown)),
@@ -207,7 +207,7 @@ fn grant_stage(
 }
 
 fn lookup_stage(alloc: Global, lookup: &Lookup, chain: UserChain) -> Result<Stage, AllocError>
-    ensures { IfOk result (λ stage. stage ≡ words.lookup_stage lookup.now chain) }
+    ensures { IfOk result (λ stage. stage ≡ lookup_stage lookup.now chain) }
 {
     match chain {
         UserChain::Ask { db } => Ok(Stage::Asks(Question {
@@ -227,7 +227,7 @@ fn lookup_stage(alloc: Global, lookup: &Lookup, chain: UserChain) -> Result<Stag
 
 // Whether some recorded answer has the field `nodelay`.
 fn has_nodelay(answers: &Answers) -> bool
-    ensures { result ≡ words.has_nodelay answers.now }
+    ensures { result ≡ has_nodelay answers.now }
 {
     answers.items.iter().any(|entry| has_field(&entry.1))
 }

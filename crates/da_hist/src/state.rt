@@ -69,7 +69,7 @@ pub struct Request {
 
 /// What is known of a query.
 #[derive(Drop)]
-pub struct Asked {
+pub struct QueryRow {
     pub request: u32,
     pub question: Question,
     pub password: Option<Text>,
@@ -78,17 +78,17 @@ pub struct Asked {
     /// Its answer, and the moment at which that was recorded.
     pub answer: Option<(Answer, u64)>,
     /// What each use of the answer that checked a password found, the last use first.
-    pub tests: Tests,
+    pub comparisons: Comparisons,
 }
 
 /// The tables at the end of a history.
 #[derive(Drop)]
-pub struct State {
+pub struct Tables {
     pub connections: Connections,
     pub requests: Requests,
     pub queries: Queries,
     /// The queries whose answers were recorded and may be kept, the last first.
-    pub recordings: Numbers,
+    pub cacheable: Numbers,
     /// The keys of the cache, the most recent first.
     pub keys: Keys,
 }
@@ -128,11 +128,11 @@ pub enum Stage {
 
 /// What uses of an answer found, the last first.
 #[derive(Drop)]
-pub struct Tests {
+pub struct Comparisons {
     pub(crate) items: Vec<bool>,
 }
 
-impl Model for Tests {
+impl Model for Comparisons {
     ghost use Rattle.std.specs.Prelude.{List, Bool};
 
     ghost Value = { List Bool };
@@ -188,14 +188,14 @@ impl Model for Requests {
 /// Queries, the first at number 1.
 #[derive(Drop)]
 pub struct Queries {
-    pub(crate) items: Vec<Asked>,
+    pub(crate) items: Vec<QueryRow>,
 }
 
 impl Model for Queries {
     ghost use Rattle.std.specs.Prelude.{List};
-    ghost use Rattle.da_hist.specs.declared.state.Asked.{Asked};
+    ghost use Rattle.da_hist.specs.declared.state.QueryRow.{QueryRow};
 
-    ghost Value = { List Asked };
+    ghost Value = { List QueryRow };
 
     ghost view = { λ t. t.items.items };
 }

@@ -2,15 +2,15 @@
 
 ghost use Rattle.std.specs.Prelude.{◌≡◌, map};
 ghost use Rattle.da_base.specs.Words.{changed_nth};
-ghost use Rattle.da_hist.specs.Tables as tables;
-ghost use Rattle.da_hist.specs.LinesHeard.{versioned, with_pid};
+ghost use Rattle.da_hist.specs.Tables.{cancelled, as_cancelled_of, closed};
+ghost use Rattle.da_hist.specs.Lines.{with_version, with_pid};
 
 use crate::lists::Numbers;
-use crate::state::{Connection, Connections, Keys, Queries, Request, Requests, State};
+use crate::state::{Connection, Connections, Keys, Queries, Request, Requests, Tables};
 use std::alloc::Global;
 
 fn close(connections: &mut [Connection], conn: u32)
-    ensures { connections.new ≡ changed_nth tables.closed connections.old conn }
+    ensures { connections.new ≡ changed_nth closed connections.old conn }
 {
     if conn > 0 && conn as usize <= connections.len() {
         connections[conn as usize - 1].is_open = false;
@@ -18,7 +18,7 @@ fn close(connections: &mut [Connection], conn: u32)
 }
 
 fn version(connections: &mut [Connection], conn: u32)
-    ensures { connections.new ≡ changed_nth versioned connections.old conn }
+    ensures { connections.new ≡ changed_nth with_version connections.old conn }
 {
     if conn > 0 && conn as usize <= connections.len() {
         connections[conn as usize - 1].has_version = true;
@@ -34,7 +34,7 @@ fn set_pid(connections: &mut [Connection], conn: u32, pid: u32)
 }
 
 fn cancel(requests: &mut [Request], number: u32)
-    ensures { requests.new ≡ changed_nth tables.cancelled requests.old number }
+    ensures { requests.new ≡ changed_nth cancelled requests.old number }
 {
     if number > 0 && number as usize <= requests.len() {
         requests[number as usize - 1].is_cancelled = true;
@@ -42,7 +42,7 @@ fn cancel(requests: &mut [Request], number: u32)
 }
 
 fn cancel_of(request: &mut Request, conn: u32)
-    ensures { request.new ≡ tables.cancelled_of conn request.old }
+    ensures { request.new ≡ as_cancelled_of conn request.old }
 {
     if request.conn == conn {
         request.is_cancelled = true;
@@ -50,7 +50,7 @@ fn cancel_of(request: &mut Request, conn: u32)
 }
 
 fn cancel_all_of(requests: &mut [Request], conn: u32)
-    ensures { requests.new ≡ map (tables.cancelled_of conn) requests.old }
+    ensures { requests.new ≡ map (as_cancelled_of conn) requests.old }
 {
     for request in requests.iter_mut() {
         cancel_of(request, conn);
@@ -59,7 +59,7 @@ fn cancel_all_of(requests: &mut [Request], conn: u32)
 
 impl Connections {
     fn close(&mut self, conn: u32)
-        ensures { self.new ≡ changed_nth tables.closed self.old conn }
+        ensures { self.new ≡ changed_nth closed self.old conn }
     {
         close(&mut self.items, conn);
     }
@@ -67,20 +67,20 @@ impl Connections {
 
 impl Requests {
     fn cancel_of(&mut self, conn: u32)
-        ensures { self.new ≡ map (tables.cancelled_of conn) self.old }
+        ensures { self.new ≡ map (as_cancelled_of conn) self.old }
     {
         cancel_all_of(&mut self.items, conn);
     }
 }
 
-impl State {
+impl Tables {
     ghost use Rattle.da_hist.specs.Tables.{at_start, with_end, with_connection, with_request, cancelled};
 
     /// The tables before any entry. They take no memory.
-    pub(crate) fn new(alloc: Global) -> State
+    pub(crate) fn new(alloc: Global) -> Tables
         ensures { result ≡ at_start }
     {
-        State {
+        Tables {
             connections: Connections {
                 items: Vec::new(alloc),
             },
@@ -90,7 +90,7 @@ impl State {
             queries: Queries {
                 items: Vec::new(alloc),
             },
-            recordings: Numbers::new(Vec::new(alloc)),
+            cacheable: Numbers::new(Vec::new(alloc)),
             keys: Keys {
                 items: Vec::new(alloc),
             },
@@ -108,7 +108,7 @@ impl State {
 
     /// The connection sent its version.
     pub(crate) fn version(&mut self, conn: u32)
-        ensures { self.new ≡ with_connection versioned conn self.old }
+        ensures { self.new ≡ with_connection with_version conn self.old }
     {
         version(&mut self.connections.items, conn);
     }

@@ -1,7 +1,7 @@
 // The settings of a server whose operator sets nothing.
 
 ghost use Rattle.std.specs.Prelude.{◌≡◌, ◌≤◌, IfOk};
-ghost use Rattle.da_hist.specs.UsualSettings.{usual_passdb, usual_settings, usual_username_chars};
+ghost use Rattle.da_hist.specs.DefaultSettings.{default_passdb, default_settings, default_username_chars};
 
 use crate::lists::{Mechs, Passdbs, Texts, Userdbs};
 use crate::settings::Settings;
@@ -20,8 +20,8 @@ fn text_of(alloc: Global, bytes: &[u8]) -> Result<Text, AllocError>
 }
 
 /// A password database that workers answer for, of this number.
-pub fn usual_passdb(alloc: Global, number: u32) -> Passdb
-    ensures { result ≡ usual_passdb number }
+pub fn default_passdb(alloc: Global, number: u32) -> Passdb
+    ensures { result ≡ default_passdb number }
 {
     Passdb {
         number,
@@ -42,10 +42,10 @@ pub fn usual_passdb(alloc: Global, number: u32) -> Passdb
 
 impl Settings {
     /// The settings of a server whose operator sets nothing but how long failures are held back, in milliseconds.
-    #[tactic(auto, unfolding(crate::specs::UsualSettings::usual_settings))]
-    pub fn usual(alloc: Global, failure_delay: u64) -> Result<Settings, AllocError>
+    #[tactic(auto, unfolding(crate::specs::DefaultSettings::default_settings))]
+    pub fn default(alloc: Global, failure_delay: u64) -> Result<Settings, AllocError>
         requires { failure_delay ≤ 60000 }
-        ensures { IfOk result (λ settings. settings ≡ usual_settings failure_delay) }
+        ensures { IfOk result (λ settings. settings ≡ default_settings failure_delay) }
     {
         Ok(Settings {
             server_pid: 1,
@@ -66,7 +66,7 @@ impl Settings {
             history_entries: 500_000,
             history_bytes: 268_435_456,
             connections: 1_000,
-            passdb: Passdbs::new(vec![in alloc; usual_passdb(alloc, 1)]?),
+            passdb: Passdbs::new(vec![in alloc; default_passdb(alloc, 1)]?),
             userdb: Userdbs::new(Vec::new(alloc)),
         })
     }

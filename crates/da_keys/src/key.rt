@@ -1,7 +1,7 @@
 // Keys.
 
 ghost use Rattle.std.specs.Prelude.{◌≡◌, IfOk};
-ghost use Rattle.da_keys.specs.Keys as words;
+ghost use Rattle.da_keys.specs.Keys.{same_key, same_kind};
 
 use da_fields::{QueryKind, Text};
 use std::alloc::{AllocError, Global};
@@ -16,7 +16,7 @@ pub struct Key {
 
 /// Whether the kinds are the same.
 pub fn is_same_kind(one: QueryKind, other: QueryKind) -> bool
-    ensures { result ≡ words.same_kind one other }
+    ensures { result ≡ same_kind one other }
 {
     match one {
         QueryKind::Pass => matches!(other, QueryKind::Pass),
@@ -28,14 +28,14 @@ pub fn is_same_kind(one: QueryKind, other: QueryKind) -> bool
 impl Key {
     /// Whether it is the key of this kind, this database and this user.
     pub fn is_of(&self, kind: QueryKind, db: u32, user: &[u8]) -> bool
-        ensures { result ≡ words.same_key (record { kind = kind; db = db; user = user.now }) self.now }
+        ensures { result ≡ same_key (record { kind = kind; db = db; user = user.now }) self.now }
     {
         is_same_kind(kind, self.kind) && db == self.db && user == self.user.bytes()
     }
 
     /// Whether the other key is the same.
     pub fn is(&self, other: &Key) -> bool
-        ensures { result ≡ words.same_key self.now other.now }
+        ensures { result ≡ same_key self.now other.now }
     {
         other.is_of(self.kind, self.db, self.user.bytes())
     }

@@ -4,7 +4,7 @@ ghost use Rattle.std.specs.Prelude.{◌≡◌, ◌<◌, ◌++◌, ◌∷◌, [],
 ghost use Rattle.da_base.specs.Words.{hex, hex_digit};
 ghost use Rattle.da_tabline.specs.Escapes.{spelled};
 ghost use Rattle.da_tabline.specs.Spelling.{more_fields};
-ghost use Rattle.da_msgs.specs.Replies as words;
+ghost use Rattle.da_msgs.specs.Replies.{greeting};
 ghost use Rattle.da_msgs.specs.Replies.{version_line, server_line, mechanism_line, mechanism_flags};
 
 use crate::kinds::{ConnKind, Mech};
@@ -25,7 +25,7 @@ pub fn handshake(
     number: u32,
     cookie: &[u8; 16],
 ) -> Result<Vec<Text>, AllocError>
-    ensures { IfOk result (λ lines. lines.items ≡ words.greeting kind mechs.now pid number (hex cookie.now)) }
+    ensures { IfOk result (λ lines. lines.items ≡ greeting kind mechs.now pid number (hex cookie.now)) }
 {
     let digits = hex_text(alloc, cookie)?;
     greeting(alloc, kind, mechs, pid, number, &digits)
@@ -41,7 +41,7 @@ pub fn greeting(
     number: u32,
     digits: &[u8],
 ) -> Result<Vec<Text>, AllocError>
-    ensures { IfOk result (λ lines. lines.items ≡ words.greeting kind mechs.now pid number digits.now) }
+    ensures { IfOk result (λ lines. lines.items ≡ greeting kind mechs.now pid number digits.now) }
 {
     match kind {
         ConnKind::Client => client_lines(alloc, mechs, pid, number, digits),

@@ -1,7 +1,7 @@
 // Kinds of connections, and mechanisms.
 
 ghost use Rattle.std.specs.Prelude.{◌≡◌, IfOk};
-ghost use Rattle.da_msgs.specs.Replies as words;
+ghost use Rattle.da_msgs.specs.Replies.{mechanism_name, mechanism_named};
 
 use std::alloc::{AllocError, Global};
 
@@ -30,7 +30,7 @@ pub enum Mech {
 impl Mech {
     /// The name of the mechanism, in capitals.
     pub fn name(self) -> &'static [u8]
-        ensures { result.now ≡ words.mechanism_name self }
+        ensures { result.now ≡ mechanism_name self }
     {
         match self {
             Mech::Plain => b"PLAIN",
@@ -42,7 +42,7 @@ impl Mech {
 
     /// The mechanism of this name among these, without regard to case. `None` exactly where there is none.
     pub fn named(alloc: Global, name: &[u8], mechs: &[Mech]) -> Result<Option<Mech>, AllocError>
-        ensures { IfOk result (λ mech. mech ≡ words.mechanism_named name.now mechs.now) }
+        ensures { IfOk result (λ mech. mech ≡ mechanism_named name.now mechs.now) }
     {
         let capitals = name.to_ascii_uppercase(alloc)?;
         for mech in mechs {

@@ -18,7 +18,7 @@ pub trait Clock {
 #[derive(Debug, Drop)]
 pub struct SetClock {
     moments: Vec<u64>,
-    told: AtomicUsize,
+    reported: AtomicUsize,
 }
 
 impl Model for SetClock {
@@ -35,7 +35,7 @@ impl SetClock {
     {
         SetClock {
             moments,
-            told: AtomicUsize::new(0),
+            reported: AtomicUsize::new(0),
         }
     }
 }
@@ -48,7 +48,7 @@ impl Clock for SetClock {
         if count == 0 {
             return 0;
         }
-        let told = self.told.fetch_add(1, Ordering::SeqCst);
-        self.moments[told.min(count - 1)]
+        let reported = self.reported.fetch_add(1, Ordering::SeqCst);
+        self.moments[reported.min(count - 1)]
     }
 }

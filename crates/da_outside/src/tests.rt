@@ -31,14 +31,14 @@ fn files(alloc: Global) -> Result<Vec<(Vec<u8>, Vec<u8>)>, AllocError> {
 fn a_source_gives_its_bytes_and_then_its_end(rt: HostRuntime) -> Result<(), Fail> {
     let alloc = rt.alloc();
     let mut source = MemSource::new(b"ab".to_vec(alloc)?, [2, 4].to_vec(alloc)?);
-    let told = [
+    let reported = [
         Ok(Some(b'a')),
         Err(Failed),
         Ok(Some(b'b')),
         Err(Failed),
         Ok(None),
     ];
-    for want in told {
+    for want in reported {
         assert_eq!(rt; read_byte(&mut source), want);
     }
     let mut source = SoundSource::new(b"ab".to_vec(alloc)?);
@@ -69,14 +69,14 @@ fn a_sink_keeps_what_it_took(rt: HostRuntime) -> Result<(), Fail> {
 fn the_first_file_of_a_path_is_read(rt: HostRuntime) -> Result<(), Fail> {
     let alloc = rt.alloc();
     let mut mem = MemFiles::new(files(alloc)?, [2].to_vec(alloc)?);
-    let told = [
+    let reported = [
         ("a", Ok("one")),
         ("a", Err(GetFault::Failed)),
         ("b", Err(GetFault::Long)),
         ("c", Ok("")),
         ("d", Err(GetFault::Failed)),
     ];
-    for (path, want) in told {
+    for (path, want) in reported {
         let got = read_file(alloc, &mut mem, path.as_bytes());
         assert_eq!(rt;
             got.as_ref().map(|bytes| bytes.as_slice()),
@@ -153,14 +153,14 @@ fn a_link_gives_its_lines(rt: HostRuntime) -> Result<(), Fail> {
     for want in [Err(Failed), Ok(())] {
         assert_eq!(rt; say(&mut link, b"line"), want);
     }
-    let told = [
+    let reported = [
         Ok(3),
         Err(GetFault::Failed),
         Ok(8192),
         Err(GetFault::Long),
         Err(GetFault::Failed),
     ];
-    for want in told {
+    for want in reported {
         assert_eq!(rt; line_length(rt.alloc(), &mut link), want);
     }
     assert_eq!(rt; link.talk().len(), 7);

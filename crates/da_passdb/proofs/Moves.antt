@@ -31,10 +31,10 @@ unreadable default text none = sym (ap (option_and_then (λ labelled. stored_und
 -- where a password was checked, none is stored
 pub judged_passed : (db : Passdb) (login : Login) (checked : Bool) (fields : Pairs) (answer : Answer) (judged : Judged) (o : Outcome) → answer ≡ Passed fields
     → judged ≡ record { outcome = o; stored = None } → ((checked : Bool) → o ≡ outcome db login checked (Passed fields)) → IsJudged db login checked answer judged
-judged_passed db login checked fields answer judged o is made told =
+judged_passed db login checked fields answer judged o is made reported =
     subst (λ a. IsJudged db login checked a judged) (sym is) (
     record {
-      outcome = ap (λ j. j.outcome) made ∙ told checked;
+      outcome = ap (λ j. j.outcome) made ∙ reported checked;
       credentials = λ success unchecked. ap (λ j. j.stored) made;
     }
     )

@@ -102,18 +102,18 @@ fresh_start part (End how) dbs = tt
 
 pub starts : (dbs : List Passdb) (login : Login) (part : Part) (start : Progress) (s : Stand) → part ≡ first_part login → start ≡ no_progress
     → ((more : Answers) → chain_of_stand s dbs login more ≡ chain_from part 0 dbs login more start) → Stands s dbs login [] → IsStandAfter dbs login [] s
-starts dbs login part start s first is rest stands =
+starts dbs login part start s first is rest is_there =
     record {
       rest = λ more. rest more ∙ from_start dbs login more part start first is;
-      stands = stands;
+      is_there = is_there;
       fresh = fresh_start s.part s.place dbs;
     }
 
 pub chain_told : (dbs : List Passdb) (login : Login) (answers : Answers) (part : Part) (start : Progress) (s : Stand) → part ≡ first_part login → start ≡ no_progress
     → ((more : Answers) → chain_of_stand s dbs login (answers ++ more) ≡ chain_from part 0 dbs login (answers ++ more) start)
     → Stands s dbs login answers → told_at s.part s.place dbs login s.progress ≡ login_chain dbs login answers
-chain_told dbs login answers part start s first is rest stands =
-    tells s.part s.place dbs login answers s.progress stands
+chain_told dbs login answers part start s first is rest is_there =
+    tells s.part s.place dbs login answers s.progress is_there
     ∙ subst (λ l. chain_of_stand s dbs login l ≡ chain_from part 0 dbs login l start) (append-nil answers) (rest [])
     ∙ from_start dbs login answers part start first is
 
@@ -122,7 +122,7 @@ chain_told dbs login answers part start s first is rest stands =
 stand_told : (dbs : List Passdb) (login : Login) (answers : Answers) (s : Stand) → IsStandAfter dbs login answers s
     → told_at s.part s.place dbs login s.progress ≡ login_chain dbs login answers
 stand_told dbs login answers s after =
-    tells s.part s.place dbs login answers s.progress after.stands
+    tells s.part s.place dbs login answers s.progress after.is_there
     ∙ subst (λ l. chain_of_stand s dbs login l ≡ login_chain dbs login l) (append-nil answers) (after.rest [])
 
 pub cursor_tells : {E : Type 0} (r : Result Chain E) (dbs : List Passdb) (cursor : Cursor)
@@ -150,7 +150,7 @@ pub asking_stands : (dbs : List Passdb) (cursor : Cursor) (index : ℕ) → IsAs
     → StandsAt cursor.stand.part (Before index) dbs cursor.login [] cursor.stand.progress
 asking_stands dbs cursor index a is =
     let s : StandsAt cursor.stand.part (Before index) dbs a.0 a.1 cursor.stand.progress =
-    subst (λ x. StandsAt cursor.stand.part x dbs a.0 a.1 cursor.stand.progress) is a.2.stand.stands
+    subst (λ x. StandsAt cursor.stand.part x dbs a.0 a.1 cursor.stand.progress) is a.2.stand.is_there
     in
     subst (λ l. StandsAt cursor.stand.part (Before index) dbs l [] cursor.stand.progress) (sym a.2.login_is) (
       s.0,
@@ -217,7 +217,7 @@ takes_at : (dbs : List Passdb) (login : Login) (answers : Answers) (part : Part)
     → IsTrue (are_valid_passdbs dbs) → ((more : Answers) → chain_from part index dbs login (answers ++ more) p ≡ login_chain dbs login (answers ++ more))
     → (s : StandsAt part (Before index) dbs login answers p) → IsFresh part (Before index) dbs answers → GoesOnWith part index a dbs login p after
     → Stands after dbs login [] → IsFurther part (index + 1) after.part after.place → IsStandAfter dbs login (answers ++ (s.0.number, a) ∷ []) after
-takes_at dbs login answers part index p a after valid rest s fresh goes stands further =
+takes_at dbs login answers part index p a after valid rest s fresh goes is_there further =
     let one = (s.0.number, a) ∷ [] in
     let number : s.0.number ≡ 1 + index = number_at 1 dbs index s.0 valid s.1 in
     let later : IsFresh after.part after.place dbs (answers ++ one) =
@@ -231,7 +231,7 @@ takes_at dbs login answers part index p a after valid rest s fresh goes stands f
           in
           goes s.0 ((answers ++ one) ++ more) s.1 given
           ∙ subst (λ l. chain_from part index dbs login l p ≡ login_chain dbs login l) (sym (append_assoc answers one more)) (rest (one ++ more));
-      stands = stands_after after.part after.place dbs login (answers ++ one) after.progress valid later stands;
+      is_there = stands_after after.part after.place dbs login (answers ++ one) after.progress valid later is_there;
       fresh = later;
     }
 
@@ -244,23 +244,23 @@ record IsBefore (dbs : List Passdb) (login : Login) (answers : Answers) (part : 
 before_of : (dbs : List Passdb) (login : Login) (answers : Answers) (part : Part) (place : Place) (index : ℕ) (p : Progress) → place ≡ Before index
     → ((more : Answers) → chain_at part place dbs login (answers ++ more) p ≡ login_chain dbs login (answers ++ more)) → StandsAt part place dbs login answers p
     → IsFresh part place dbs answers → IsBefore dbs login answers part index p
-before_of dbs login answers part place index p at rest stands fresh =
+before_of dbs login answers part place index p at rest is_there fresh =
     record {
       before_rest = subst (λ x. (more : Answers) → chain_at part x dbs login (answers ++ more) p ≡ login_chain dbs login (answers ++ more)) at rest;
-      before_stands = subst (λ x. StandsAt part x dbs login answers p) at stands;
+      before_stands = subst (λ x. StandsAt part x dbs login answers p) at is_there;
       before_fresh = subst (λ x. IsFresh part x dbs answers) at fresh;
     }
 
 pub takes : (dbs : List Passdb) (a : Answer) (before after : Cursor) (index : ℕ) (copied : Stand) → before.stand.place ≡ Before index → copied ≡ before.stand
     → after.login ≡ before.login → GoesOnWith copied.part index a dbs before.login copied.progress after.stand → Stands after.stand dbs before.login []
     → IsFurther copied.part (index + 1) after.stand.part after.stand.place → TakesAnswer dbs a before after
-takes dbs a before after index copied at equal kept goes stands further = λ login answers s.
+takes dbs a before after index copied at equal kept goes is_there further = λ login answers s.
     let stand : IsStandAfter dbs login answers copied = subst (IsStandAfter dbs login answers) (sym equal) s.stand in
     let place : copied.place ≡ Before index = ap (λ x. x.place) equal ∙ at in
     let here : IsBefore dbs login answers copied.part index copied.progress =
-    before_of dbs login answers copied.part copied.place index copied.progress place stand.rest stand.stands stand.fresh
+    before_of dbs login answers copied.part copied.place index copied.progress place stand.rest stand.is_there stand.fresh
     in
-    let told : login_chain dbs login answers ≡ Ask here.before_stands.0.number (query_kind here.before_stands.0) (asked_name copied.part login) copied.progress.checked =
+    let reported : login_chain dbs login answers ≡ Ask here.before_stands.0.number (query_kind here.before_stands.0) (asked_name copied.part login) copied.progress.checked =
     sym (
     tells copied.part (Before index) dbs login answers copied.progress here.before_stands
     ∙ subst (λ l. chain_from copied.part index dbs login l copied.progress ≡ login_chain dbs login l) (append-nil answers) (here.before_rest [])
@@ -273,19 +273,19 @@ takes dbs a before after index copied at equal kept goes stands further = λ log
     let taken : IsStandAfter dbs login (answers ++ (here.before_stands.0.number, a) ∷ []) after.stand =
     takes_at dbs login answers copied.part index copied.progress a after.stand s.valid here.before_rest here.before_stands here.before_fresh
     (subst (λ l. GoesOnWith copied.part index a dbs l copied.progress after.stand) s.login_is goes)
-    (subst (λ l. Stands after.stand dbs l []) s.login_is stands) further
+    (subst (λ l. Stands after.stand dbs l []) s.login_is is_there) further
     in
     record {
       valid = s.valid;
       login_is = kept ∙ s.login_is;
-      stand = subst (λ l. IsStandAfter dbs login l after.stand) (sym (ap (λ chain. with_answer_to chain a answers) told)) taken;
+      stand = subst (λ l. IsStandAfter dbs login l after.stand) (sym (ap (λ chain. with_answer_to chain a answers) reported)) taken;
     }
 
 -- ---- one answer after the other
 
 -- a cursor that tells a question asks
 pub asks_as_told : (dbs : List Passdb) (cursor : Cursor) (chain : Chain) → IsAlong dbs cursor → TellsChain dbs cursor chain → IsAsk chain → IsAsking dbs cursor
-asks_as_told dbs cursor chain a told ask = (a.0, a.1, a.2, subst IsAsk (told a.0 a.1 a.2) ask)
+asks_as_told dbs cursor chain a reported ask = (a.0, a.1, a.2, subst IsAsk (reported a.0 a.1 a.2) ask)
 
 -- it stays one of the chain
 pub along_after : (dbs : List Passdb) (a : Answer) (before after : Cursor) → IsAlong dbs before → TakesAnswer dbs a before after → IsAlong dbs after

@@ -38,7 +38,7 @@ IsFresh part (End how) dbs answers = Unit {0}
 pub record IsStandAfter (dbs : List Passdb) (login : Login) (answers : Answers) (s : Stand) : Type 0 where
   -- whatever is answered later, the chain from the start goes on as it does from here
   pub rest : (more : Answers) → chain_of_stand s dbs login (answers ++ more) ≡ login_chain dbs login (answers ++ more)
-  pub stands : Stands s dbs login answers
+  pub is_there : Stands s dbs login answers
   pub fresh : IsFresh s.part s.place dbs answers
 
 -- the cursor has taken these answers, in the chain of this login along these databases

@@ -74,21 +74,21 @@ is_decided_by_password db login checked stored fields =
     fits (query_kind db) (Found stored fields) && is_plaintext_proof login.proof && not db.deny && not checked && is_let_in db login.vars fields
 
 -- whether a plaintext password decides the outcome, and then whether it matches
-unfoldable pub password_test : Passdb → Login → Bool → Answer → Option Bool
-password_test db login checked (Found stored fields) =
+unfoldable pub password_comparison : Passdb → Login → Bool → Answer → Option Bool
+password_comparison db login checked (Found stored fields) =
     if is_decided_by_password db login checked stored fields
     then Some (is_success (outcome db login checked (Found stored fields)))
     else None
-password_test db login checked _ = None
+password_comparison db login checked _ = None
 
 -- what is compared where a plaintext password decides the outcome and the stored password can be read
 abbrev pub compared_with : Proof → Option StoredPassword → Option (StoredPassword × Bytes)
 compared_with (Plain password) (Some stored) = Some (stored, password)
 compared_with _ _ = None
 
-unfoldable pub password_check : Passdb → Login → Bool → Answer → Option (StoredPassword × Bytes)
-password_check db login checked (Found stored fields) =
+unfoldable pub password_compared : Passdb → Login → Bool → Answer → Option (StoredPassword × Bytes)
+password_compared db login checked (Found stored fields) =
     if is_decided_by_password db login checked stored fields
     then compared_with login.proof (stored_password db.default_scheme stored)
     else None
-password_check db login checked _ = None
+password_compared db login checked _ = None

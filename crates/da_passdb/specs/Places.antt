@@ -15,8 +15,8 @@ use Rattle.da_passdb.specs.declared.part.Part.TheVariants.{Ordinary, Masters, Af
 use Rattle.da_passdb.specs.declared.progress.Course.{Course}
 use Rattle.da_passdb.specs.declared.progress.Course.TheVariants.{GoesOn, Ends, Jumps}
 use Rattle.da_passdb.specs.declared.progress.Progress.{Progress}
-use Rattle.da_passdb.specs.declared.step.Step.{Step}
-use Rattle.da_passdb.specs.declared.step.Step.TheVariants.{GoesOn as StepsOn, Asks, Ends as StepsOut, Jumps as StepsOver}
+use Rattle.da_passdb.specs.declared.step.ChainStep.{ChainStep}
+use Rattle.da_passdb.specs.declared.step.ChainStep.TheVariants.{GoesOn as StepsOn, Asks, Ends as StepsOut, Jumps as StepsOver}
 use Rattle.da_passdb.specs.declared.walk.Place.{Place}
 use Rattle.da_passdb.specs.declared.walk.Place.TheVariants.{Before, End}
 use Rattle.da_passdb.specs.declared.walk.Stand.{Stand}
@@ -84,7 +84,7 @@ followed (Ends how) p = Stop (Ended how p)
 followed Jumps p = Stop (Jumped p)
 
 -- the same for a database that may be asked
-abbrev pub stepped : Step → Passdb → Bytes → Progress → Move
+abbrev pub stepped : ChainStep → Passdb → Bytes → Progress → Move
 stepped StepsOn db name p = GoOn p
 stepped Asks db name p = asking db name p
 stepped (StepsOut how) db name p = Stop (Ended how p)
@@ -95,12 +95,12 @@ abbrev pub JumpsFrom : Part → Course → Type 0
 JumpsFrom part Jumps = IsTrue (are_masters part)
 JumpsFrom part _ = Unit {0}
 
-abbrev pub StepsFrom : Part → Step → Type 0
+abbrev pub StepsFrom : Part → ChainStep → Type 0
 StepsFrom part StepsOver = IsTrue (are_masters part)
 StepsFrom part _ = Unit {0}
 
 -- a database without an answer may be asked, and then nothing changes
-abbrev pub AsksUnchanged : Step → Option Answer → Progress → Progress → Type 0
+abbrev pub AsksUnchanged : ChainStep → Option Answer → Progress → Progress → Type 0
 AsksUnchanged Asks answer before after = (answer ≡ None) × (after ≡ before)
 AsksUnchanged _ answer before after = Unit {0}
 

@@ -1,7 +1,7 @@
 // Password databases.
 
 ghost use Rattle.std.specs.Prelude.{◌≡◌, IfOk};
-ghost use Rattle.da_passdb.specs.LoginChain as words;
+ghost use Rattle.da_passdb.specs.LoginChain.{are_valid_passdbs, is_valid_passdb};
 
 use da_chain::are_templates;
 use da_fields::{Fields, Rule, Text};
@@ -55,7 +55,7 @@ pub struct Passdb {
 /// Whether the databases are numbered 1, 2 and so on in order, and the default and override fields of each have keys that
 /// aren't empty and templates as values. It takes no memory.
 pub fn are_valid_passdbs(dbs: &[Passdb]) -> bool
-    ensures { result ≡ words.are_valid_passdbs dbs.now }
+    ensures { result ≡ are_valid_passdbs dbs.now }
 {
     for (index, db) in dbs.iter().enumerate() {
         if db.number as usize != index + 1 || !db.is_valid() {
@@ -68,7 +68,7 @@ pub fn are_valid_passdbs(dbs: &[Passdb]) -> bool
 impl Passdb {
     // Whether its default and override fields have keys, and templates as values.
     fn is_valid(&self) -> bool
-        ensures { result ≡ words.is_valid_passdb self.now }
+        ensures { result ≡ is_valid_passdb self.now }
     {
         are_templates(&self.default_fields) && are_templates(&self.override_fields)
     }

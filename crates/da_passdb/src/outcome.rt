@@ -2,9 +2,9 @@
 
 ghost use Rattle.std.specs.Prelude.{◌≡◌, Bool, IfOk, IsTrue};
 ghost use Rattle.da_base.specs.Words.{Bytes};
-ghost use Rattle.da_fields.specs.declared.answer.Answer.TheVariants as answers;
+ghost use Rattle.da_fields.specs.declared.answer.Answer.TheVariants.{Found, Passed};
 ghost use Rattle.da_passdb.specs.LoginChain.{is_valid_passdb};
-ghost use Rattle.da_passdb.specs.Outcomes as words;
+ghost use Rattle.da_passdb.specs.Outcomes.{is_decided_by_password, is_let_in, outcome as spec_outcome, password_outcome, password_comparison, query_kind};
 ghost use Rattle.da_passdb.specs.Places.{IsJudged};
 ghost use Rattle.da_schemes.specs.Scheme.{is_plaintext_scheme, is_scram_scheme};
 ghost use Rattle.da_schemes.specs.Stored.{matches, stored_password};
@@ -40,7 +40,7 @@ impl Judged {
 impl Passdb {
     /// What the database is asked: to check a password, or for the stored one.
     pub(crate) fn query_kind(&self) -> QueryKind
-        ensures { result ≡ words.query_kind self.now }
+        ensures { result ≡ query_kind self.now }
     {
         match self.driver {
             Driver::Checkpassword => QueryKind::Check,
@@ -64,7 +64,7 @@ fn is_scram(scheme: Scheme) -> bool
 // Whether the fields of an answer, with the database's own, let the client's address in.
 fn is_let_in(alloc: Global, db: &Passdb, vars: &Vars, found: &Fields) -> Result<bool, AllocError>
     requires { IsTrue (is_valid_passdb db.now) }
-    ensures { IfOk result (λ let_in. let_in ≡ words.is_let_in db.now vars.now found.now) }
+    ensures { IfOk result (λ let_in. let_in ≡ is_let_in db.now vars.now found.now) }
 {
     let none = Fields::new(alloc);
     let fields = merge_expanded(
@@ -95,7 +95,7 @@ fn password_matches(stored: &Stored, password: &[u8], memo: &[Checked]) -> bool
 
 // What a stored password gives, where it can be read.
 fn password_outcome(proof: &Proof, stored: &Option<Stored>, memo: &[Checked]) -> Outcome
-    ensures { result ≡ words.password_outcome proof.now stored.now }
+    ensures { result ≡ password_outcome proof.now stored.now }
 {
     let Some(stored) = stored else {
         return Outcome::NoScheme;
@@ -149,7 +149,7 @@ fn judge_found(
     memo: &[Checked],
 ) -> Result<Judged, AllocError>
     requires { IsTrue (is_valid_passdb db.now) }
-    ensures { IfOk result (λ judged. IsJudged db.now login.now checked (answers.Found stored.now fields.now) judged) }
+    ensures { IfOk result (λ judged. IsJudged db.now login.now checked (Found stored.now fields.now) judged) }
 {
     if db.query_kind() == QueryKind::Check {
         return Ok(Judged::unread(Outcome::Internal));
@@ -174,7 +174,7 @@ fn outcome_of_passed(
     fields: &Fields,
 ) -> Result<Outcome, AllocError>
     requires { IsTrue (is_valid_passdb db.now) }
-    ensures { IfOk result (λ outcome. (checked : Bool) → outcome ≡ words.outcome db.now login.now checked (answers.Passed fields.now)) }
+    ensures { IfOk result (λ outcome. (checked : Bool) → outcome ≡ spec_outcome db.now login.now checked (Passed fields.now)) }
 {
     if db.query_kind() != QueryKind::Check {
         return Ok(Outcome::Internal);
@@ -228,7 +228,7 @@ fn is_decided_by_password(
     fields: &Fields,
 ) -> Result<bool, AllocError>
     requires { IsTrue (is_valid_passdb db.now) }
-    ensures { IfOk result (λ decided. (stored : Bytes) → decided ≡ words.is_decided_by_password db.now login.now checked stored fields.now) }
+    ensures { IfOk result (λ decided. (stored : Bytes) → decided ≡ is_decided_by_password db.now login.now checked stored fields.now) }
 {
     let is_plaintext = matches!(login.proof, Proof::Plain(_));
     if db.query_kind() == QueryKind::Check || !is_plaintext || db.deny || checked {
@@ -238,8 +238,8 @@ fn is_decided_by_password(
 }
 
 // What a plaintext password finds that decides what comes of a stored password.
-#[tactic(auto, unfolding(crate::specs::Outcomes::password_test, crate::specs::Outcomes::outcome))]
-fn test_found(
+#[tactic(auto, unfolding(crate::specs::Outcomes::password_comparison, crate::specs::Outcomes::outcome))]
+fn comparison_found(
     alloc: Global,
     db: &Passdb,
     login: &Login,
@@ -248,7 +248,7 @@ fn test_found(
     fields: &Fields,
 ) -> Result<Option<bool>, AllocError>
     requires { IsTrue (is_valid_passdb db.now) }
-    ensures { IfOk result (λ test. test ≡ words.password_test db.now login.now checked (answers.Found stored.now fields.now)) }
+    ensures { IfOk result (λ comparison. comparison ≡ password_comparison db.now login.now checked (Found stored.now fields.now)) }
 {
     if !is_decided_by_password(alloc, db, login, checked, fields)? {
         return Ok(None);
@@ -260,8 +260,8 @@ fn test_found(
 
 /// Whether a plaintext password decides what comes of an answer, and then whether it matches. `checked` says whether a
 /// password has been checked before.
-#[tactic(auto, unfolding(crate::specs::Outcomes::password_test))]
-pub fn password_test(
+#[tactic(auto, unfolding(crate::specs::Outcomes::password_comparison))]
+pub fn password_comparison(
     alloc: Global,
     db: &Passdb,
     login: &Login,
@@ -269,10 +269,10 @@ pub fn password_test(
     answer: &Answer,
 ) -> Result<Option<bool>, AllocError>
     requires { IsTrue (is_valid_passdb db.now) }
-    ensures { IfOk result (λ test. test ≡ words.password_test db.now login.now checked answer.now) }
+    ensures { IfOk result (λ comparison. comparison ≡ password_comparison db.now login.now checked answer.now) }
 {
     match answer {
-        Answer::Found { stored, fields } => test_found(alloc, db, login, checked, stored, fields),
+        Answer::Found { stored, fields } => comparison_found(alloc, db, login, checked, stored, fields),
         _ => Ok(None),
     }
 }

@@ -1,7 +1,7 @@
 // The parts of a chain.
 
 ghost use Rattle.std.specs.Prelude.{◌≡◌};
-ghost use Rattle.da_passdb.specs.Places as words;
+ghost use Rattle.da_passdb.specs.Places.{are_masters, asked_name, first_part, has_authz, is_of};
 
 use crate::database::Passdb;
 use crate::login::{Login, Proof};
@@ -21,7 +21,7 @@ pub(crate) enum Part {
 impl Part {
     /// Where the chain of a login begins.
     pub(crate) fn first(login: &Login) -> Part
-        ensures { result ≡ words.first_part login.now }
+        ensures { result ≡ first_part login.now }
     {
         match &login.master {
             Some(_) => Part::Masters,
@@ -30,14 +30,14 @@ impl Part {
     }
 
     pub(crate) fn is_masters(self) -> bool
-        ensures { result ≡ words.are_masters self }
+        ensures { result ≡ are_masters self }
     {
         matches!(self, Part::Masters)
     }
 
     /// Whether the part walks along this database.
     pub(crate) fn has(self, db: &Passdb) -> bool
-        ensures { result ≡ words.is_of self db.now }
+        ensures { result ≡ is_of self db.now }
     {
         match self {
             Part::Masters => db.master,
@@ -47,7 +47,7 @@ impl Part {
 
     /// The name for which the databases are asked.
     pub(crate) fn name(self, login: &Login) -> &Text
-        ensures { result.now ≡ words.asked_name self login.now }
+        ensures { result.now ≡ asked_name self login.now }
     {
         match self {
             Part::Masters => match &login.master {
@@ -60,7 +60,7 @@ impl Part {
 
     /// Whether an end here tells that the master of a plaintext login was authenticated.
     pub(crate) fn has_authz(self, login: &Login) -> bool
-        ensures { result ≡ words.has_authz self login.now }
+        ensures { result ≡ has_authz self login.now }
     {
         match self {
             Part::AfterMasters => matches!(login.proof, Proof::Plain(_)),

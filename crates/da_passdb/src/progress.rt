@@ -1,7 +1,7 @@
 // The state of a chain.
 
 ghost use Rattle.std.specs.Prelude.{◌≡◌, IfOk};
-ghost use Rattle.da_passdb.specs.LoginChain as words;
+ghost use Rattle.da_passdb.specs.LoginChain.{Ended, by_rule, ended, no_progress};
 ghost use Rattle.da_passdb.specs.Places.{are_masters, followed, JumpsFrom};
 
 use crate::chain::VerdictKind;
@@ -36,7 +36,7 @@ pub(crate) struct Progress {
 impl Progress {
     /// The state before the first database.
     pub(crate) fn new(alloc: Global) -> Progress
-        ensures { result ≡ words.no_progress }
+        ensures { result ≡ no_progress }
     {
         Progress {
             success: false,
@@ -66,7 +66,7 @@ impl Progress {
 
     /// The kind of a verdict with this state.
     pub(crate) fn end(&self) -> VerdictKind
-        ensures { words.Ended result self.now ≡ words.ended self.now }
+        ensures { Ended result self.now ≡ ended self.now }
     {
         if self.success {
             VerdictKind::Ok
@@ -79,7 +79,7 @@ impl Progress {
 
     /// Obeys a rule: whether there is success, and how the chain goes on.
     pub(crate) fn obey(&mut self, rule: Rule, succeeded: bool, part: Part) -> Course
-        ensures moves { followed result self.new ≡ words.by_rule rule succeeded (are_masters part) self.old }
+        ensures moves { followed result self.new ≡ by_rule rule succeeded (are_masters part) self.old }
         ensures jumps { JumpsFrom part result }
     {
         match rule {

@@ -6,7 +6,7 @@ ghost use Rattle.da_fields.specs.declared.answer.Answer.{Answer};
 ghost use Rattle.da_passdb.specs.declared.database.Passdb.{Passdb};
 ghost use Rattle.da_passdb.specs.declared.part.Part.{Part};
 ghost use Rattle.da_passdb.specs.declared.progress.Progress.{Progress};
-ghost use Rattle.da_passdb.specs.LoginChain as words;
+ghost use Rattle.da_passdb.specs.LoginChain.{answer_move, deny_move, is_passed_over, is_skipped, is_unaskable, is_valid_passdb, with_outcome};
 ghost use Rattle.da_passdb.specs.Places.{are_masters, asked_name, asked_move, part_move, followed, stepped, JumpsFrom, StepsFrom, AsksUnchanged, HasCredentials};
 
 use crate::chain::VerdictKind;
@@ -23,7 +23,7 @@ use std::alloc::{AllocError, Global};
 
 /// What a database does to a chain.
 #[derive(Clone, Copy, Drop)]
-pub(crate) enum Step {
+pub(crate) enum ChainStep {
     /// The chain goes on to the next database of its part.
     GoesOn,
     /// The database is asked.
@@ -34,22 +34,22 @@ pub(crate) enum Step {
     Jumps,
 }
 
-impl Step {
-    fn of(course: Course) -> Step
+impl ChainStep {
+    fn of(course: Course) -> ChainStep
         ensures moves { (db : Passdb) (name : Bytes) (p : Progress) → stepped result db name p ≡ followed course p }
         ensures asks { (answer : Option Answer) (before after : Progress) → AsksUnchanged result answer before after }
         ensures jumps { (part : Part) → JumpsFrom part course → StepsFrom part result }
     {
         match course {
-            Course::GoesOn => Step::GoesOn,
-            Course::Ends(kind) => Step::Ends(kind),
-            Course::Jumps => Step::Jumps,
+            Course::GoesOn => ChainStep::GoesOn,
+            Course::Ends(kind) => ChainStep::Ends(kind),
+            Course::Jumps => ChainStep::Jumps,
         }
     }
 }
 
 fn is_skipped(skip: Skip, success: bool) -> bool
-    ensures { result ≡ words.is_skipped skip success }
+    ensures { result ≡ is_skipped skip success }
 {
     match skip {
         Skip::Never => false,
@@ -60,21 +60,21 @@ fn is_skipped(skip: Skip, success: bool) -> bool
 
 // Whether a database is passed over, which would be asked for this name.
 fn is_passed_over(db: &Passdb, name: &[u8], success: bool) -> bool
-    ensures { (p : Progress) → p.success ≡ success → result ≡ words.is_passed_over db.now name.now p }
+    ensures { (p : Progress) → p.success ≡ success → result ≡ is_passed_over db.now name.now p }
 {
     is_skipped(db.skip, success) || !filter_matches(db.username_filter.bytes(), name)
 }
 
 // Whether a checkpassword database has no plaintext password to check, or none that isn't checked already.
 fn is_unaskable(db: &Passdb, login: &Login, checked: bool) -> bool
-    ensures { (p : Progress) → p.checked ≡ checked → result ≡ words.is_unaskable db.now login.now p }
+    ensures { (p : Progress) → p.checked ≡ checked → result ≡ is_unaskable db.now login.now p }
 {
     db.query_kind() == QueryKind::Check && (!matches!(login.proof, Proof::Plain(_)) || checked)
 }
 
 // What a deny database's answer does.
 fn denied(answer: &Answer) -> Course
-    ensures moves { (db : Passdb) (name : Bytes) (p : Progress) → followed result p ≡ words.deny_move db name p (Some answer.now) }
+    ensures moves { (db : Passdb) (name : Bytes) (p : Progress) → followed result p ≡ deny_move db name p (Some answer.now) }
     ensures jumps { (part : Part) → JumpsFrom part result }
 {
     match answer {
@@ -96,9 +96,9 @@ fn take_outcome(
     answer: &Answer,
     progress: &mut Progress,
 ) -> Result<(), AllocError>
-    requires valid { IsTrue (words.is_valid_passdb db.now) }
+    requires valid { IsTrue (is_valid_passdb db.now) }
     requires credentials { HasCredentials db.now progress.old.checked answer.now judged }
-    ensures { IfOk result (λ _. progress.new ≡ words.with_outcome db.now vars.now judged.outcome answer.now progress.old) }
+    ensures { IfOk result (λ _. progress.new ≡ with_outcome db.now vars.now judged.outcome answer.now progress.old) }
 {
     match judged.outcome {
         Outcome::Success => {
@@ -131,8 +131,8 @@ fn follow(
     memo: &[Checked],
     progress: &mut Progress,
 ) -> Result<Course, AllocError>
-    requires { IsTrue (words.is_valid_passdb db.now) }
-    ensures moves { IfOk result (λ course. (name : Bytes) → followed course progress.new ≡ words.answer_move (are_masters part) db.now name login.now progress.old (Some answer.now)) }
+    requires { IsTrue (is_valid_passdb db.now) }
+    ensures moves { IfOk result (λ course. (name : Bytes) → followed course progress.new ≡ answer_move (are_masters part) db.now name login.now progress.old (Some answer.now)) }
     ensures jumps { IfOk result (λ course. JumpsFrom part course) }
 {
     let judged = judge(alloc, db, login, progress.checked, answer, memo)?;
@@ -149,7 +149,7 @@ fn follow(
 }
 
 /// What a chain does after the answer of a database that was asked. The memo has passwords that were checked already.
-pub(crate) fn settle(
+pub(crate) fn judge_answer(
     alloc: Global,
     db: &Passdb,
     part: Part,
@@ -158,7 +158,7 @@ pub(crate) fn settle(
     memo: &[Checked],
     progress: &mut Progress,
 ) -> Result<Course, AllocError>
-    requires { IsTrue (words.is_valid_passdb db.now) }
+    requires { IsTrue (is_valid_passdb db.now) }
     ensures moves { IfOk result (λ course. followed course progress.new ≡ asked_move part db.now login.now progress.old (Some answer.now)) }
     ensures jumps { IfOk result (λ course. JumpsFrom part course) }
 {
@@ -177,22 +177,22 @@ pub(crate) fn visit(
     login: &Login,
     answer: Option<&Answer>,
     progress: &mut Progress,
-) -> Result<Step, AllocError>
-    requires { IsTrue (words.is_valid_passdb db.now) }
+) -> Result<ChainStep, AllocError>
+    requires { IsTrue (is_valid_passdb db.now) }
     ensures moves { IfOk result (λ step. stepped step db.now (asked_name part login.now) progress.new ≡ part_move part db.now login.now progress.old (option_copied answer.entry)) }
     ensures asks { IfOk result (λ step. AsksUnchanged step (option_copied answer.entry) progress.old progress.new) }
     ensures jumps { IfOk result (λ step. StepsFrom part step) }
 {
     if !part.has(db) || is_passed_over(db, part.name(login).bytes(), progress.success) {
-        return Ok(Step::GoesOn);
+        return Ok(ChainStep::GoesOn);
     }
     if !db.deny && is_unaskable(db, login, progress.checked) {
         let course = progress.obey(db.result_failure, false, part);
-        return Ok(Step::of(course));
+        return Ok(ChainStep::of(course));
     }
     let Some(answer) = answer else {
-        return Ok(Step::Asks);
+        return Ok(ChainStep::Asks);
     };
-    let course = settle(alloc, db, part, login, answer, &[], progress)?;
-    Ok(Step::of(course))
+    let course = judge_answer(alloc, db, part, login, answer, &[], progress)?;
+    Ok(ChainStep::of(course))
 }

@@ -127,8 +127,8 @@ fn key_and_value(word: &[u8]) -> (&[u8], &[u8]) {
 }
 
 // The answer that a text tells: a letter, for a stored password that password, and fields.
-fn answer(alloc: Global, told: &[u8]) -> Result<Answer, AllocError> {
-    let Some((letter, rest)) = told.split_first() else {
+fn answer(alloc: Global, reported: &[u8]) -> Result<Answer, AllocError> {
+    let Some((letter, rest)) = reported.split_first() else {
         return Ok(Answer::Unknown);
     };
     let mut words = rest.split(|byte| *byte == b' ');
@@ -186,13 +186,13 @@ fn shown(alloc: Global, chain: &Chain) -> Result<Vec<u8>, AllocError> {
 }
 
 // The answers of the databases 1, 2 and so on, with bars between them.
-fn numbered(alloc: Global, told: &[u8]) -> Result<Vec<(u32, Answer)>, AllocError> {
+fn numbered(alloc: Global, reported: &[u8]) -> Result<Vec<(u32, Answer)>, AllocError> {
     let mut answers = Vec::new(alloc);
-    if told.is_empty() {
+    if reported.is_empty() {
         return Ok(answers);
     }
     let mut number: u32 = 0;
-    for one in told.split(|byte| *byte == b'|') {
+    for one in reported.split(|byte| *byte == b'|') {
         number = number.saturating_add(1);
         answers.push((number, answer(alloc, one)?))?;
     }
@@ -200,13 +200,13 @@ fn numbered(alloc: Global, told: &[u8]) -> Result<Vec<(u32, Answer)>, AllocError
 }
 
 // What the chain tells from all answers at once.
-fn told_at_once(alloc: Global, scene: Scene, told: &[u8]) -> Result<Vec<u8>, AllocError> {
+fn told_at_once(alloc: Global, scene: Scene, reported: &[u8]) -> Result<Vec<u8>, AllocError> {
     let dbs = databases(alloc, scene)?;
     if !are_valid_passdbs(&dbs) {
         return Vec::from_slice(alloc, b"not valid");
     }
     let login = login(alloc, scene)?;
-    let answers = numbered(alloc, told)?;
+    let answers = numbered(alloc, reported)?;
     let chain = next(alloc, &dbs, &login, &answers)?;
     shown(alloc, &chain)
 }
@@ -249,7 +249,7 @@ fn take_all(
 fn told_by_cursor(
     alloc: Global,
     scene: Scene,
-    told: &[u8],
+    reported: &[u8],
     memo: &[Checked],
 ) -> Result<Vec<u8>, AllocError> {
     let dbs = databases(alloc, scene)?;
@@ -257,7 +257,7 @@ fn told_by_cursor(
         return Vec::from_slice(alloc, b"not valid");
     }
     let login = login(alloc, scene)?;
-    let answers = numbered(alloc, told)?;
+    let answers = numbered(alloc, reported)?;
     let mut cursor = Cursor::new(alloc, &dbs, login.copy(alloc)?)?;
     take_all(alloc, &dbs, &mut cursor, &answers, memo)?;
     let copy = cursor.copy(alloc)?;
@@ -340,8 +340,8 @@ const CASES: [(Scene, &str, &str); 33] = [
 
 #[test]
 fn all_answers_at_once_lead_to_the_next_question(rt: HostRuntime) -> Result<(), Fail> {
-    for (scene, told, want) in CASES {
-        let chain = told_at_once(rt.alloc(), scene, told.as_bytes())?;
+    for (scene, reported, want) in CASES {
+        let chain = told_at_once(rt.alloc(), scene, reported.as_bytes())?;
         assert_eq!(rt; chain.as_slice(), want.as_bytes());
     }
     Ok(())
@@ -349,8 +349,8 @@ fn all_answers_at_once_lead_to_the_next_question(rt: HostRuntime) -> Result<(), 
 
 #[test]
 fn one_answer_after_the_other_leads_there_too(rt: HostRuntime) -> Result<(), Fail> {
-    for (scene, told, want) in CASES {
-        let chain = told_by_cursor(rt.alloc(), scene, told.as_bytes(), &[])?;
+    for (scene, reported, want) in CASES {
+        let chain = told_by_cursor(rt.alloc(), scene, reported.as_bytes(), &[])?;
         assert_eq!(rt; chain.as_slice(), want.as_bytes());
     }
     Ok(())
@@ -363,8 +363,8 @@ fn passwords_checked_before_make_no_difference(rt: HostRuntime) -> Result<(), Fa
     memo.push(checked(alloc, b"{PLAIN}pw", b"no")?)?;
     memo.push(checked(alloc, b"{PLAIN}no", b"no")?)?;
     memo.push(checked(alloc, b"{PLAIN}pw", b"pw")?)?;
-    for (scene, told, want) in CASES {
-        let chain = told_by_cursor(alloc, scene, told.as_bytes(), &memo)?;
+    for (scene, reported, want) in CASES {
+        let chain = told_by_cursor(alloc, scene, reported.as_bytes(), &memo)?;
         assert_eq!(rt; chain.as_slice(), want.as_bytes());
     }
     Ok(())

@@ -12,7 +12,7 @@ use crate::database::Passdb;
 use crate::login::Login;
 use crate::part::Part;
 use crate::progress::{Course, Progress};
-use crate::step::{Step, settle, visit};
+use crate::step::{ChainStep, judge_answer, visit};
 use da_chain::answer_from;
 use da_fields::Answer;
 use da_schemes::Checked;
@@ -54,7 +54,7 @@ impl Stand {
         kind: VerdictKind,
         login: &Login,
     ) -> Result<Verdict, AllocError>
-        ensures { IfOk result (λ told. told ≡ verdict kind login.now (has_authz self.now.part login.now) self.now.progress) }
+        ensures { IfOk result (λ reported. reported ≡ verdict kind login.now (has_authz self.now.part login.now) self.now.progress) }
     {
         let progress = self.progress.copy(alloc)?;
         Ok(Verdict {
@@ -106,7 +106,7 @@ pub(crate) fn walk(
 ) -> Result<Stand, AllocError>
     requires { IsTrue (list_all is_valid_passdb dbs.now) }
     ensures rest { IfOk result (λ stand. (more : Answers) → chain_of_stand stand dbs.now login.now (answers.now ++ more) ≡ chain_from from_part from dbs.now login.now (answers.now ++ more) before) }
-    ensures stands { IfOk result (λ stand. Stands stand dbs.now login.now answers.now) }
+    ensures is_there { IfOk result (λ stand. Stands stand dbs.now login.now answers.now) }
     ensures further { IfOk result (λ stand. IsFurther from_part from stand.part stand.place) }
 {
     let mut part = from_part;
@@ -116,12 +116,12 @@ pub(crate) fn walk(
         let db = &dbs[index];
         let answer = answer_from(db.number, answers);
         match visit(alloc, db, part, login, answer, &mut progress)? {
-            Step::GoesOn => index += 1,
-            Step::Jumps => {
+            ChainStep::GoesOn => index += 1,
+            ChainStep::Jumps => {
                 part = Part::AfterMasters;
                 index = 0;
             }
-            Step::Asks => {
+            ChainStep::Asks => {
                 let place = Place::Before(index);
                 return Ok(Stand {
                     part,
@@ -129,7 +129,7 @@ pub(crate) fn walk(
                     progress,
                 });
             }
-            Step::Ends(kind) => {
+            ChainStep::Ends(kind) => {
                 let place = Place::End(kind);
                 return Ok(Stand {
                     part,
@@ -162,13 +162,13 @@ pub(crate) fn walk_answered(
     requires within { index < length dbs.now }
     requires asked { StandsAt stand.part (Before index) dbs.now login.now [] stand.progress }
     ensures rest { IfOk result (λ after. GoesOnWith stand.part index answer.now dbs.now login.now stand.progress after) }
-    ensures stands { IfOk result (λ after. Stands after dbs.now login.now []) }
+    ensures is_there { IfOk result (λ after. Stands after dbs.now login.now []) }
     ensures further { IfOk result (λ after. IsFurther stand.part (index + 1) after.part after.place) }
 {
     let part = stand.part;
     let mut progress = stand.progress;
     let db = &dbs[index];
-    match settle(alloc, db, part, login, answer, memo, &mut progress)? {
+    match judge_answer(alloc, db, part, login, answer, memo, &mut progress)? {
         Course::GoesOn => walk(alloc, dbs, login, &[], part, index + 1, progress),
         Course::Jumps => walk(alloc, dbs, login, &[], Part::AfterMasters, 0, progress),
         Course::Ends(kind) => {

@@ -3,7 +3,7 @@
 ghost use Rattle.std.specs.Prelude.{◌≡◌, ◌∷◌, [], IfOk};
 ghost use Rattle.da_fields.specs.declared.said.Said.TheVariants.{Challenge};
 ghost use Rattle.da_plain.specs.Login.{LoginSays};
-ghost use Rattle.da_plain.specs.Login as words;
+ghost use Rattle.da_plain.specs.Login.{both_say, login_says, name_says};
 
 use da_fields::{Said, Text};
 use std::alloc::{AllocError, Global};
@@ -12,14 +12,14 @@ use std::alloc::{AllocError, Global};
 /// empty message, and to a third one.
 pub fn login_says(alloc: Global, messages: &[Text]) -> Result<Said, AllocError>
     ensures says { IfOk result (λ said. LoginSays messages.now said) }
-    ensures value { IfOk result (λ said. said ≡ words.login_says messages.now) }
+    ensures value { IfOk result (λ said. said ≡ login_says messages.now) }
 {
     said_to(alloc, messages)
 }
 
 #[tactic(auto, unfolding(crate::specs::Login::login_says))]
 fn said_to(alloc: Global, messages: &[Text]) -> Result<Said, AllocError>
-    ensures { IfOk result (λ said. said ≡ words.login_says messages.now) }
+    ensures { IfOk result (λ said. said ≡ login_says messages.now) }
 {
     match messages {
         [] => challenge(alloc, b"Username:"),
@@ -30,7 +30,7 @@ fn said_to(alloc: Global, messages: &[Text]) -> Result<Said, AllocError>
 }
 
 fn said_to_name(alloc: Global, name: &[u8]) -> Result<Said, AllocError>
-    ensures { IfOk result (λ said. said ≡ words.name_says name.now) }
+    ensures { IfOk result (λ said. said ≡ name_says name.now) }
 {
     if name.is_empty() {
         return Ok(Said::Bad);
@@ -39,7 +39,7 @@ fn said_to_name(alloc: Global, name: &[u8]) -> Result<Said, AllocError>
 }
 
 fn said_to_both(alloc: Global, name: &Text, password: &Text) -> Result<Said, AllocError>
-    ensures { IfOk result (λ said. said ≡ words.both_say name.now password.now) }
+    ensures { IfOk result (λ said. said ≡ both_say name.now password.now) }
 {
     if name.bytes().is_empty() || password.bytes().is_empty() {
         return Ok(Said::Bad);

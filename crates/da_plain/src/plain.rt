@@ -4,7 +4,7 @@ ghost use Rattle.std.specs.Prelude.{◌≡◌, ◌∷◌, [], IfOk, MatchOption}
 ghost use Rattle.da_base.specs.Words.{pieces};
 ghost use Rattle.da_fields.specs.declared.said.Said.TheVariants.{Bad};
 ghost use Rattle.da_plain.specs.Plain.{PlainSays, plain_parts};
-ghost use Rattle.da_plain.specs.Plain as words;
+ghost use Rattle.da_plain.specs.Plain.{plain_says};
 
 use da_fields::{Said, Text};
 use da_tabline::split_at_byte;
@@ -14,14 +14,14 @@ use std::alloc::{AllocError, Global};
 /// authorization identity and the password that it names; `Bad` to a message of another form, and to a second one.
 pub fn plain_says(alloc: Global, messages: &[Text]) -> Result<Said, AllocError>
     ensures says { IfOk result (λ said. PlainSays messages.now said) }
-    ensures value { IfOk result (λ said. said ≡ words.plain_says messages.now) }
+    ensures value { IfOk result (λ said. said ≡ plain_says messages.now) }
 {
     said_to(alloc, messages)
 }
 
 #[tactic(auto, unfolding(crate::specs::Plain::plain_says))]
 fn said_to(alloc: Global, messages: &[Text]) -> Result<Said, AllocError>
-    ensures { IfOk result (λ said. said ≡ words.plain_says messages.now) }
+    ensures { IfOk result (λ said. said ≡ plain_says messages.now) }
 {
     match messages {
         [] => Ok(Said::Challenge(Text::new(Vec::new(alloc)))),

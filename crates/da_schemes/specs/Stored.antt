@@ -149,10 +149,10 @@ IsFitting scheme secret = secret_fits (kind_of scheme) (digest_size scheme) secr
 
 -- a result is what was told, or want of memory
 abbrev pub IsRead : {A : Type 0} → Option A → Result A SchemeFault → Type 0
-IsRead told (Ok value) = told ≡ Some value
-IsRead told (Err UnknownScheme) = ⊥
-IsRead told (Err BadText) = told ≡ None
-IsRead told (Err NoMemory) = Unit {0}
+IsRead reported (Ok value) = reported ≡ Some value
+IsRead reported (Err UnknownScheme) = ⊥
+IsRead reported (Err BadText) = reported ≡ None
+IsRead reported (Err NoMemory) = Unit {0}
 
 -- a result is the stored password that the text spells; UnknownScheme exactly where the braces name no scheme or
 -- encoding, else BadText exactly where the text is off its form; or want of memory

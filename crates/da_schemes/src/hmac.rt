@@ -3,7 +3,7 @@ ghost use Rattle.std.specs.Prelude.{◌≡◌, ◌≤◌, ◌<◌, ◌++◌, Lis
 ghost use Rattle.md5.specs.Md5.{md5};
 ghost use Rattle.sha2.specs.Sha256.{sha256};
 ghost use Rattle.sha2.specs.Hashers.{Holds256};
-ghost use Rattle.da_schemes.specs.Hmac as words;
+ghost use Rattle.da_schemes.specs.Hmac.{block_key, hi, hmac_md5, hmac_of_block, hmac_sha256, padded, xor_bytes, xor_each};
 ghost use Rattle.da_schemes.specs.Keyed.{IsKeyed};
 
 use md5::{Digest as _, Md5};
@@ -19,7 +19,7 @@ const OUTER_PAD: u8 = 0x5C;
 // The key, and zeros to the end of a block.
 fn padded(key: &[u8]) -> [u8; BLOCK]
     requires { length key.now ≤ 64 }
-    ensures { result ≡ words.padded key.now }
+    ensures { result ≡ padded key.now }
 {
     let mut block = [0; BLOCK];
     block[..key.len()].copy_from_slice(key);
@@ -28,7 +28,7 @@ fn padded(key: &[u8]) -> [u8; BLOCK]
 
 // Each byte XOR the pad.
 fn xor_each(block: &[u8; BLOCK], pad: u8) -> [u8; BLOCK]
-    ensures { result ≡ words.xor_each block.now pad }
+    ensures { result ≡ xor_each block.now pad }
 {
     let mut out = *block;
     for byte in out.iter_mut() {
@@ -39,7 +39,7 @@ fn xor_each(block: &[u8; BLOCK], pad: u8) -> [u8; BLOCK]
 
 /// Takes the bytes into the sum by XOR.
 pub fn xor_into(sum: &mut [u8; 32], bytes: &[u8; 32])
-    ensures { sum.new ≡ words.xor_bytes sum.old bytes.now }
+    ensures { sum.new ≡ xor_bytes sum.old bytes.now }
 {
     for i in 0..32 {
         sum[i] ^= bytes[i];
@@ -48,7 +48,7 @@ pub fn xor_into(sum: &mut [u8; 32], bytes: &[u8; 32])
 
 // The key as one block of MD5.
 fn md5_block(key: &[u8]) -> [u8; BLOCK]
-    ensures { result ≡ words.block_key md5 key.now }
+    ensures { result ≡ block_key md5 key.now }
 {
     if key.len() <= BLOCK {
         padded(key)
@@ -59,7 +59,7 @@ fn md5_block(key: &[u8]) -> [u8; BLOCK]
 
 // The key as one block of SHA-256.
 fn sha256_block(key: &[u8]) -> [u8; BLOCK]
-    ensures { result ≡ words.block_key sha256 key.now }
+    ensures { result ≡ block_key sha256 key.now }
 {
     if key.len() <= BLOCK {
         padded(key)
@@ -71,7 +71,7 @@ fn sha256_block(key: &[u8]) -> [u8; BLOCK]
 /// HMAC-MD5 of a text under a key (RFC 2104).
 #[tactic(auto, unfolding(crate::specs::Hmac::hmac_md5))]
 pub fn hmac_md5(key: &[u8], text: &[u8]) -> [u8; 16]
-    ensures { result ≡ words.hmac_md5 key.now text.now }
+    ensures { result ≡ hmac_md5 key.now text.now }
 {
     let block = md5_block(key);
     let mut inner = Md5::new();
@@ -93,7 +93,7 @@ struct Keyed {
 impl Keyed {
     // The states after a key's two blocks.
     fn new(key: &[u8]) -> Keyed
-        ensures { IsKeyed result (words.block_key sha256 key.now) }
+        ensures { IsKeyed result (block_key sha256 key.now) }
     {
         let block = sha256_block(key);
         let mut inner = Sha256::new();
@@ -105,7 +105,7 @@ impl Keyed {
 
     // The keyed digest of one piece after the other.
     fn digest(&self, text: &[u8], more: &[u8]) -> [u8; 32]
-        ensures { (block : List ℕ) → IsKeyed self.now block → result ≡ words.hmac_of_block sha256 block (text.now ++ more.now) }
+        ensures { (block : List ℕ) → IsKeyed self.now block → result ≡ hmac_of_block sha256 block (text.now ++ more.now) }
     {
         let mut inner = copy_of(&self.inner);
         inner.update(text);
@@ -126,7 +126,7 @@ fn copy_of(hasher: &Sha256) -> Sha256
 /// HMAC-SHA-256 of a text under a key (RFC 2104).
 #[tactic(auto, unfolding(crate::specs::Hmac::hmac_sha256))]
 pub fn hmac_sha256(key: &[u8], text: &[u8]) -> [u8; 32]
-    ensures { result ≡ words.hmac_sha256 key.now text.now }
+    ensures { result ≡ hmac_sha256 key.now text.now }
 {
     Keyed::new(key).digest(text, &[])
 }
@@ -135,7 +135,7 @@ pub fn hmac_sha256(key: &[u8], text: &[u8]) -> [u8; 32]
 /// block (RFC 8018, section 5.2).
 pub fn hi(password: &[u8], salt: &[u8], rounds: u32) -> [u8; 32]
     requires { 0 < rounds }
-    ensures { result ≡ words.hi password.now salt.now rounds }
+    ensures { result ≡ hi password.now salt.now rounds }
 {
     let keyed = Keyed::new(password);
     let mut digest = keyed.digest(salt, &[0, 0, 0, 1]);

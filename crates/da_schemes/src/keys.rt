@@ -1,6 +1,6 @@
 // The keys of SCRAM-SHA-256.
 ghost use Rattle.std.specs.Prelude.{◌≡◌, ◌<◌, ◌↔◌, IfOk, IsTrue};
-ghost use Rattle.da_schemes.specs.Keys as words;
+ghost use Rattle.da_schemes.specs.Keys.{keys_of, server_key, stored_key};
 
 use crate::digest::same_bytes;
 use crate::hmac::{hi, hmac_sha256};
@@ -21,14 +21,14 @@ pub struct ScramKeys {
 
 /// StoredKey of a salted password.
 pub(crate) fn stored_key(salted: &[u8]) -> [u8; 32]
-    ensures { result ≡ words.stored_key salted.now }
+    ensures { result ≡ stored_key salted.now }
 {
     Sha256::digest(&hmac_sha256(salted, b"Client Key"))
 }
 
 /// ServerKey of a salted password.
 pub(crate) fn server_key(salted: &[u8]) -> [u8; 32]
-    ensures { result ≡ words.server_key salted.now }
+    ensures { result ≡ server_key salted.now }
 {
     hmac_sha256(salted, b"Server Key")
 }
@@ -41,7 +41,7 @@ pub(crate) fn keys_of(
     rounds: u32,
 ) -> Result<ScramKeys, AllocError>
     requires { 0 < rounds }
-    ensures { IfOk result (λ keys. keys ≡ words.keys_of password.now salt.now rounds) }
+    ensures { IfOk result (λ keys. keys ≡ keys_of password.now salt.now rounds) }
 {
     let kept = Octets::new(Vec::from_slice(alloc, salt)?);
     let salted = hi(password, salt, rounds);

@@ -1,7 +1,7 @@
 // The schemes by name, and the braces before a stored password.
 ghost use Rattle.std.specs.Prelude.{◌≡◌, Some, None, MatchOption};
-ghost use Rattle.da_schemes.specs.Scheme as words;
-ghost use Rattle.da_schemes.specs.Stored as words_of_stored;
+ghost use Rattle.da_schemes.specs.Scheme.{braced, encoding_named, kind_of, label_named, same_name, scheme_name, scheme_named};
+ghost use Rattle.da_schemes.specs.Stored.{digest_size, own_encoding};
 
 use da_tabline::{split_at_byte, strip_front};
 
@@ -68,7 +68,7 @@ pub(crate) struct Label {
 
 // Whether two names are equal without regard to ASCII case.
 fn same_name(name: &[u8], other: &[u8]) -> bool
-    ensures { result ≡ words.same_name name.now other.now }
+    ensures { result ≡ same_name name.now other.now }
 {
     name.eq_ignore_ascii_case(other)
 }
@@ -76,7 +76,7 @@ fn same_name(name: &[u8], other: &[u8]) -> bool
 impl Scheme {
     /// The scheme of this name, without regard to ASCII case. `None` exactly where the name is no scheme's.
     pub fn read(name: &[u8]) -> Option<Scheme>
-        ensures { result ≡ words.scheme_named name.now }
+        ensures { result ≡ scheme_named name.now }
     {
         SCHEMES
             .iter()
@@ -86,7 +86,7 @@ impl Scheme {
 
     /// The scheme's name.
     pub(crate) fn name(self) -> &'static [u8]
-        ensures { result.now ≡ words.scheme_name self }
+        ensures { result.now ≡ scheme_name self }
     {
         match self {
             Scheme::Plain => b"PLAIN",
@@ -107,7 +107,7 @@ impl Scheme {
 
     /// What the scheme stores.
     pub(crate) fn kind(self) -> Kind
-        ensures { result ≡ words.kind_of self }
+        ensures { result ≡ kind_of self }
     {
         match self {
             Scheme::Plain | Scheme::Clear | Scheme::Cleartext => Kind::Verbatim,
@@ -120,7 +120,7 @@ impl Scheme {
 
     /// The bytes of the scheme's digest, 0 where it has none.
     pub(crate) fn digest_size(self) -> usize
-        ensures { result ≡ words_of_stored.digest_size self }
+        ensures { result ≡ digest_size self }
     {
         match self {
             Scheme::PlainMd5 | Scheme::LdapMd5 | Scheme::Smd5 => 16,
@@ -133,7 +133,7 @@ impl Scheme {
 
     /// The encoding of a text whose label names none; `None` for the text itself.
     pub(crate) fn own_encoding(self) -> Option<Encoding>
-        ensures { result ≡ words_of_stored.own_encoding self }
+        ensures { result ≡ own_encoding self }
     {
         match self {
             Scheme::Plain | Scheme::Clear | Scheme::Cleartext => None,
@@ -146,7 +146,7 @@ impl Scheme {
 impl Encoding {
     // The encoding of this name, without regard to ASCII case.
     fn read(name: &[u8]) -> Option<Encoding>
-        ensures { result ≡ words.encoding_named name.now }
+        ensures { result ≡ encoding_named name.now }
     {
         if same_name(name, b"b64") || same_name(name, b"base64") {
             Some(Encoding::Base64)
@@ -161,7 +161,7 @@ impl Encoding {
 impl Label {
     /// The label that a text in braces says. `None` exactly where it names no scheme or encoding.
     pub(crate) fn read(name: &[u8]) -> Option<Label>
-        ensures { result ≡ words.label_named name.now }
+        ensures { result ≡ label_named name.now }
     {
         match split_at_byte(name, b'.') {
             None => Some(Label {
@@ -182,7 +182,7 @@ impl Label {
 
 /// What stands in the braces that a text begins with, and after them.
 pub(crate) fn braced(text: &[u8]) -> Option<(&[u8], &[u8])>
-    ensures { MatchOption result (words.braced text.now ≡ None) (λ p. words.braced text.now ≡ Some (p.0.now, p.1.now)) }
+    ensures { MatchOption result (braced text.now ≡ None) (λ p. braced text.now ≡ Some (p.0.now, p.1.now)) }
 {
     split_at_byte(strip_front(text, b"{")?, b'}')
 }

@@ -3,7 +3,7 @@ ghost use Rattle.std.specs.Prelude.{◌≡◌, ◌↔◌, ◌||◌, None, IfOk, 
 ghost use Rattle.std.specs.Option.{option_copied};
 ghost use Rattle.da_schemes.specs.Scheme.{is_plaintext_scheme, is_scram_scheme};
 ghost use Rattle.da_schemes.specs.Keys.{HaveSalt};
-ghost use Rattle.da_schemes.specs.Stored as words;
+ghost use Rattle.da_schemes.specs.Stored.{scram_keys};
 ghost use Rattle.da_schemes.specs.Stored.{IsRead, IsReadFrom, stored_under, matches, plaintext_of};
 
 use crate::digest::{is_digest, same_bytes};
@@ -133,7 +133,7 @@ pub fn scram_keys(
     stored: &Stored,
     salt: &[u8; 16],
 ) -> Result<Option<ScramKeys>, AllocError>
-    ensures keys { IfOk result (λ keys. keys ≡ words.scram_keys salt.now stored.now) }
+    ensures keys { IfOk result (λ keys. keys ≡ scram_keys salt.now stored.now) }
     ensures scheme { IfOk result (λ keys. IsSome keys ↔ IsTrue (is_plaintext_scheme stored.now.scheme || is_scram_scheme stored.now.scheme)) }
 {
     match &stored.secret {
@@ -146,7 +146,7 @@ pub fn scram_keys(
 /// The salt and the rounds of the keys that `scram_keys` gives, told without a round being done. `None` exactly where it
 /// gives none.
 pub fn scram_salt<'a>(stored: &'a Stored, salt: &'a [u8; 16]) -> Option<(&'a [u8], u32)>
-    ensures { MatchOption result (words.scram_keys salt.now stored.now ≡ None) (λ p. HaveSalt (words.scram_keys salt.now stored.now) p.0.now p.1) }
+    ensures { MatchOption result (scram_keys salt.now stored.now ≡ None) (λ p. HaveSalt (scram_keys salt.now stored.now) p.0.now p.1) }
 {
     match &stored.secret {
         Secret::Plaintext(_) => Some((salt, ROUNDS)),

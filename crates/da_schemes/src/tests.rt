@@ -231,7 +231,7 @@ const READ: [(&str, &str); 27] = [
     ("{SMD5.hex}b1a85930d233609029cc0b18a97b2d5d78", "matches"),
 ];
 
-fn told(alloc: Global, text: &str) -> &'static str {
+fn reported(alloc: Global, text: &str) -> &'static str {
     match Stored::read(alloc, Scheme::Sha, text.as_bytes()) {
         Ok(stored) => {
             if stored.matches(b"abc") {
@@ -249,7 +249,7 @@ fn told(alloc: Global, text: &str) -> &'static str {
 #[test]
 fn texts_are_read_by_their_form(rt: HostRuntime) {
     for (text, want) in READ {
-        assert!(rt; told(rt.alloc(), text) == want, "{text}");
+        assert!(rt; reported(rt.alloc(), text) == want, "{text}");
     }
 }
 
@@ -292,7 +292,7 @@ fn keys_text(alloc: Global, front: &str, back: &str) -> Result<String, AllocErro
 fn keys_are_read_by_their_form(rt: HostRuntime) -> Result<(), Fail> {
     for (front, back, want) in READ_KEYS {
         let text = keys_text(rt.alloc(), front, back)?;
-        assert!(rt; told(rt.alloc(), &text) == want, "{front}{back}");
+        assert!(rt; reported(rt.alloc(), &text) == want, "{front}{back}");
     }
     Ok(())
 }

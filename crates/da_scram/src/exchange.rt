@@ -2,7 +2,7 @@
 
 ghost use Rattle.std.specs.Prelude.{◌≡◌, ◌∷◌, [], IfOk, option_copied};
 ghost use Rattle.da_base.specs.Words.{Bytes};
-ghost use Rattle.da_schemes.specs.Stored as schemes;
+ghost use Rattle.da_schemes.specs.Stored.{scram_keys};
 ghost use Rattle.da_scram.specs.Scram.{ScramSays};
 ghost use Rattle.da_scram.specs.Reading.{scram_says, messages_need, keys_say, first_need, first_message};
 
@@ -81,7 +81,7 @@ fn said_with(
     salt: &[u8; 16],
     stored: &Stored,
 ) -> Result<Said, AllocError>
-    ensures { IfOk result (λ said. said ≡ keys_say nonce.now (schemes.scram_keys salt.now stored.now) messages.now) }
+    ensures { IfOk result (λ said. said ≡ keys_say nonce.now (scram_keys salt.now stored.now) messages.now) }
 {
     match messages {
         [] => opened(alloc, salt, stored),
@@ -92,7 +92,7 @@ fn said_with(
 }
 
 fn opened(alloc: Global, salt: &[u8; 16], stored: &Stored) -> Result<Said, AllocError>
-    ensures { (nonce : Bytes) → IfOk result (λ said. said ≡ keys_say nonce (schemes.scram_keys salt.now stored.now) []) }
+    ensures { (nonce : Bytes) → IfOk result (λ said. said ≡ keys_say nonce (scram_keys salt.now stored.now) []) }
 {
     match scram_salt(stored, salt) {
         Some(_) => Ok(Said::Challenge(Text::new(Vec::new(alloc)))),
@@ -108,7 +108,7 @@ fn challenged(
     salt: &[u8; 16],
     stored: &Stored,
 ) -> Result<Said, AllocError>
-    ensures { IfOk result (λ said. said ≡ keys_say nonce.now (schemes.scram_keys salt.now stored.now) (text.now ∷ [])) }
+    ensures { IfOk result (λ said. said ≡ keys_say nonce.now (scram_keys salt.now stored.now) (text.now ∷ [])) }
 {
     let Some(first) = read_first(alloc, text)? else {
         return Ok(Said::Bad);
@@ -131,7 +131,7 @@ fn ended(
     salt: &[u8; 16],
     stored: &Stored,
 ) -> Result<Said, AllocError>
-    ensures { IfOk result (λ said. said ≡ keys_say nonce.now (schemes.scram_keys salt.now stored.now) (text.now ∷ last.now ∷ [])) }
+    ensures { IfOk result (λ said. said ≡ keys_say nonce.now (scram_keys salt.now stored.now) (text.now ∷ last.now ∷ [])) }
 {
     let Some(first) = read_first(alloc, text)? else {
         return Ok(Said::Bad);

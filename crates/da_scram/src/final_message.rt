@@ -2,7 +2,7 @@
 
 ghost use Rattle.std.specs.Prelude.{◌≡◌, ◌≢◌, ◌≤◌, ◌+◌, ◌-◌, length, take, None, IfOk, MatchOption, option_copied};
 ghost use Rattle.da_base.specs.Words.{pieces, after_front};
-ghost use Rattle.da_scram.specs.Messages as messages;
+ghost use Rattle.da_scram.specs.Messages.{final_front};
 ghost use Rattle.da_scram.specs.Reading.{parts_after, parts_read, proof_read, final_message};
 ghost use Rattle.da_scram.specs.Cuts.{HasProof, ReadsFinal};
 
@@ -58,7 +58,7 @@ fn after_nonces<'a>(
     server_nonce: &[u8],
     text: &'a [u8],
 ) -> Result<Option<&'a [u8]>, AllocError>
-    ensures { IfOk result (λ rest. option_copied rest ≡ after_front (messages.final_front header.now nonce.now server_nonce.now) text.now) }
+    ensures { IfOk result (λ rest. option_copied rest ≡ after_front (final_front header.now nonce.now server_nonce.now) text.now) }
 {
     let front = final_front(alloc, header, nonce, server_nonce)?;
     Ok(strip_front(text, &front))
@@ -79,7 +79,7 @@ fn final_front(
     nonce: &[u8],
     server_nonce: &[u8],
 ) -> Result<Vec<u8>, AllocError>
-    ensures { IfOk result (λ front. front.items ≡ messages.final_front header.now nonce.now server_nonce.now) }
+    ensures { IfOk result (λ front. front.items ≡ final_front header.now nonce.now server_nonce.now) }
 {
     let mut front = Vec::from_slice(alloc, b"c=")?;
     front.extend_from_slice(STANDARD.encode(alloc, header)?.as_bytes())?;

@@ -1,7 +1,7 @@
 // The server's messages, and its look at a proof.
 
 ghost use Rattle.std.specs.Prelude.{◌≡◌, IfOk};
-ghost use Rattle.da_scram.specs.Scram as words;
+ghost use Rattle.da_scram.specs.Scram.{is_right_proof, proof_says, request_salt, server_final, server_first, signed_text};
 
 use base64::engine::general_purpose::STANDARD;
 use da_fields::{Said, Text};
@@ -11,7 +11,7 @@ use std::alloc::{AllocError, Global};
 
 /// The salt of a plaintext password in a request with these random bytes: the first 16 bytes of their SHA-256 digest.
 pub fn request_salt(random: &[u8; 16]) -> [u8; 16]
-    ensures { result ≡ words.request_salt random.now }
+    ensures { result ≡ request_salt random.now }
 {
     let digest = Sha256::digest(random);
     let mut salt = [0; 16];
@@ -27,7 +27,7 @@ pub(crate) fn server_first(
     salt: &[u8],
     rounds: u32,
 ) -> Result<Vec<u8>, AllocError>
-    ensures { IfOk result (λ text. text.items ≡ words.server_first nonce.now server_nonce.now salt.now rounds) }
+    ensures { IfOk result (λ text. text.items ≡ server_first nonce.now server_nonce.now salt.now rounds) }
 {
     let mut text = Vec::from_slice(alloc, b"r=")?;
     text.extend_from_slice(nonce)?;
@@ -46,7 +46,7 @@ pub(crate) fn signed_text(
     server_message: &[u8],
     without_proof: &[u8],
 ) -> Result<Vec<u8>, AllocError>
-    ensures { IfOk result (λ text. text.items ≡ words.signed_text bare.now server_message.now without_proof.now) }
+    ensures { IfOk result (λ text. text.items ≡ signed_text bare.now server_message.now without_proof.now) }
 {
     let mut text = Vec::from_slice(alloc, bare)?;
     text.extend_from_slice(b",")?;
@@ -63,7 +63,7 @@ pub(crate) fn said_to_proof(
     signed: &[u8],
     proof: &[u8; 32],
 ) -> Result<Said, AllocError>
-    ensures { IfOk result (λ said. said ≡ words.proof_says keys.now signed.now proof.now) }
+    ensures { IfOk result (λ said. said ≡ proof_says keys.now signed.now proof.now) }
 {
     if !is_right_proof(keys, signed, proof) {
         return Ok(Said::Proof {
@@ -79,7 +79,7 @@ pub(crate) fn said_to_proof(
 
 // Whether the proof is the client's key XOR the client's signature.
 fn is_right_proof(keys: &ScramKeys, signed: &[u8], proof: &[u8; 32]) -> bool
-    ensures { result ≡ words.is_right_proof keys.now signed.now proof.now }
+    ensures { result ≡ is_right_proof keys.now signed.now proof.now }
 {
     let mut client_key = *proof;
     xor_into(&mut client_key, &hmac_sha256(&keys.stored, signed));
@@ -88,7 +88,7 @@ fn is_right_proof(keys: &ScramKeys, signed: &[u8], proof: &[u8; 32]) -> bool
 
 // The server's last message, its own signature.
 fn server_final(alloc: Global, keys: &ScramKeys, signed: &[u8]) -> Result<Vec<u8>, AllocError>
-    ensures { IfOk result (λ text. text.items ≡ words.server_final keys.now signed.now) }
+    ensures { IfOk result (λ text. text.items ≡ server_final keys.now signed.now) }
 {
     let mut text = Vec::from_slice(alloc, b"v=")?;
     text.extend_from_slice(

@@ -83,8 +83,8 @@ line_again conn random text small are short = ap line_of (regrouped (decimal con
 answered_again : (query : ℕ) (answer : Answer) → InputIsHeld (Answered query answer) → IsPlain (Answered query answer)
     → answered (answer_line query answer) ≡ Some (Answered query answer)
 answered_again query answer held plain =
-    let told = script_answer-plain plain.0 plain.1 answer plain.2 in
-    rw (script_answered_again (answer_line query answer) query answer refl held.0 held.1 told.0 told.1) refl
+    let reported = script_answer-plain plain.0 plain.1 answer plain.2 in
+    rw (script_answered_again (answer_line query answer) query answer refl held.0 held.1 reported.0 reported.1) refl
 
 words_again : (input : Input) → InputIsHeld input → IsPlain input → input_of (input_words input) ≡ Some input
 words_again (Opened kind random) held plain = opened_again kind random held

@@ -75,19 +75,19 @@ fresh_start End = tt
 pub chain_told : (dbs : List Userdb) (lookup : Lookup) (answers : Answers) (place : UserPlace) (start p : UserProgress) → start ≡ no_user_progress
     → ((more : Answers) → walk_from place dbs lookup (answers ++ more) p ≡ user_walk (drop 0 dbs) lookup (answers ++ more) start)
     → Stands place dbs lookup answers p → told_at place dbs p ≡ user_chain dbs lookup answers
-chain_told dbs lookup answers place start p is rest stands =
-    tells place dbs lookup answers p stands
+chain_told dbs lookup answers place start p is rest is_there =
+    tells place dbs lookup answers p is_there
     ∙ subst (λ l. walk_from place dbs lookup l p ≡ user_walk (drop 0 dbs) lookup l start) (append-nil answers) (rest [])
     ∙ from_start dbs lookup answers start is
 
 pub starts : (dbs : List Userdb) (given lookup : Lookup) (place : UserPlace) (start p : UserProgress) → given ≡ lookup → start ≡ no_user_progress
     → ((more : Answers) → walk_from place dbs given more p ≡ user_walk (drop 0 dbs) given more start)
     → Stands place dbs given [] p → IsPlaceAfter dbs lookup [] place p
-starts dbs given lookup place start p same is rest stands =
+starts dbs given lookup place start p same is rest is_there =
     subst (λ l. IsPlaceAfter dbs l [] place p) same (
     record {
       rest = λ more. rest more ∙ from_start dbs given more start is;
-      stands = stands;
+      is_there = is_there;
       fresh = fresh_start place;
     }
     )
@@ -97,7 +97,7 @@ starts dbs given lookup place start p same is rest stands =
 place_told : (dbs : List Userdb) (lookup : Lookup) (answers : Answers) (place : UserPlace) (p : UserProgress) → IsPlaceAfter dbs lookup answers place p
     → told_at place dbs p ≡ user_chain dbs lookup answers
 place_told dbs lookup answers place p s =
-    tells place dbs lookup answers p s.stands
+    tells place dbs lookup answers p s.is_there
     ∙ subst (λ l. walk_from place dbs lookup l p ≡ user_chain dbs lookup l) (append-nil answers) (s.rest [])
 
 pub cursor_tells : {E : Type 0} (r : Result UserChain E) (dbs : List Userdb) (cursor : UserCursor) → IfOk r (λ chain. chain ≡ told_at cursor.place dbs cursor.progress)
@@ -114,9 +114,9 @@ end_is_no_ask false false fields ask = ask
 
 pub no_ask_at_end : (dbs : List Userdb) (cursor : UserCursor) → IsAsking dbs cursor → cursor.place ≡ End → ⊥
 no_ask_at_end dbs cursor a is =
-    let told : told_at cursor.place dbs cursor.progress ≡ user_chain dbs a.0 a.1 = place_told dbs a.0 a.1 cursor.place cursor.progress a.2.place in
+    let reported : told_at cursor.place dbs cursor.progress ≡ user_chain dbs a.0 a.1 = place_told dbs a.0 a.1 cursor.place cursor.progress a.2.place in
     let ended : told_at cursor.place dbs cursor.progress ≡ user_end cursor.progress = ap (λ x. told_at x dbs cursor.progress) is in
-    end_is_no_ask cursor.progress.found cursor.progress.internal cursor.progress.fields (subst IsAsk (sym told ∙ ended) a.3)
+    end_is_no_ask cursor.progress.found cursor.progress.internal cursor.progress.fields (subst IsAsk (sym reported ∙ ended) a.3)
 
 pub asking_valid : (dbs : List Userdb) (cursor : UserCursor) → IsAsking dbs cursor → list_all is_valid_userdb dbs ≡ true
 asking_valid dbs cursor a = all_valid 1 dbs a.2.valid
@@ -124,7 +124,7 @@ asking_valid dbs cursor a = all_valid 1 dbs a.2.valid
 pub asking_stands : (dbs : List Userdb) (cursor : UserCursor) (index : ℕ) → IsAsking dbs cursor → cursor.place ≡ Before index
     → Stands (Before index) dbs cursor.lookup [] cursor.progress
 asking_stands dbs cursor index a is =
-    let s : Stands (Before index) dbs a.0 a.1 cursor.progress = subst (λ x. Stands x dbs a.0 a.1 cursor.progress) is a.2.place.stands in
+    let s : Stands (Before index) dbs a.0 a.1 cursor.progress = subst (λ x. Stands x dbs a.0 a.1 cursor.progress) is a.2.place.is_there in
     subst (λ l. Stands (Before index) dbs l [] cursor.progress) (sym a.2.lookup_is) (s.0, s.1, record { asks = s.2.asks; is_open = refl })
 
 -- ---- an answer is taken
@@ -146,49 +146,49 @@ stands_after End dbs lookup answers p valid fresh s = tt
 takes_at : (dbs : List Userdb) (lookup : Lookup) (answers : Answers) (index : ℕ) (p : UserProgress) (a : Answer) (place : UserPlace) (q : UserProgress)
     → IsTrue (are_valid_userdbs dbs) → (s : IsPlaceAfter dbs lookup answers (Before index) p) → GoesOnWith index a dbs lookup p place q
     → Stands place dbs lookup [] q → IsFrom (index + 1) place
-    → IsPlaceAfter dbs lookup (answers ++ (s.stands.0.number, a) ∷ []) place q
-takes_at dbs lookup answers index p a place q valid s goes stands from =
-    let db = s.stands.0 in
+    → IsPlaceAfter dbs lookup (answers ++ (s.is_there.0.number, a) ∷ []) place q
+takes_at dbs lookup answers index p a place q valid s goes is_there from =
+    let db = s.is_there.0 in
     let one = (db.number, a) ∷ [] in
-    let fresh : IsFresh place (answers ++ one) = fresh_after place answers index db.number a from (number_at 1 dbs index db valid s.stands.1) s.fresh in
+    let fresh : IsFresh place (answers ++ one) = fresh_after place answers index db.number a from (number_at 1 dbs index db valid s.is_there.1) s.fresh in
     record {
       rest = λ more.
           let given : answer_from db.number ((answers ++ one) ++ more) ≡ Some a =
-          ap (answer_from db.number) (append_assoc answers one more) ∙ answer_from-none db.number answers (one ++ more) s.stands.2.is_open
+          ap (answer_from db.number) (append_assoc answers one more) ∙ answer_from-none db.number answers (one ++ more) s.is_there.2.is_open
           ∙ answer_from-own db.number a more
           in
-          goes db ((answers ++ one) ++ more) s.stands.1 given
+          goes db ((answers ++ one) ++ more) s.is_there.1 given
           ∙ subst (λ l. user_walk (drop index dbs) lookup l p ≡ user_chain dbs lookup l) (sym (append_assoc answers one more)) (s.rest (one ++ more));
-      stands = stands_after place dbs lookup (answers ++ one) q valid fresh stands;
+      is_there = stands_after place dbs lookup (answers ++ one) q valid fresh is_there;
       fresh = fresh;
     }
 
 pub takes : (dbs : List Userdb) (a : Answer) (before after : UserCursor) (index : ℕ) (given : Lookup) (copied : UserProgress) → before.place ≡ Before index
     → given ≡ before.lookup → copied ≡ before.progress → after.lookup ≡ before.lookup → GoesOnWith index a dbs given copied after.place after.progress
     → Stands after.place dbs given [] after.progress → IsFrom (index + 1) after.place → TakesAnswer dbs a before after
-takes dbs a before after index given copied at same equal kept goes stands from = λ lookup answers s.
+takes dbs a before after index given copied at same equal kept goes is_there from = λ lookup answers s.
     let place : IsPlaceAfter dbs lookup answers (Before index) copied =
     subst (λ q. IsPlaceAfter dbs lookup answers (Before index) q) (sym equal) (subst (λ x. IsPlaceAfter dbs lookup answers x before.progress) at s.place)
     in
-    let told : user_chain dbs lookup answers ≡ Ask place.stands.0.number =
-    sym (place_told dbs lookup answers (Before index) copied place) ∙ ap (λ (o : Option Userdb). option_or_else o NotFound (λ d. Ask d.number)) place.stands.1
+    let reported : user_chain dbs lookup answers ≡ Ask place.is_there.0.number =
+    sym (place_told dbs lookup answers (Before index) copied place) ∙ ap (λ (o : Option Userdb). option_or_else o NotFound (λ d. Ask d.number)) place.is_there.1
     in
-    let taken : IsPlaceAfter dbs lookup (answers ++ (place.stands.0.number, a) ∷ []) after.place after.progress =
+    let taken : IsPlaceAfter dbs lookup (answers ++ (place.is_there.0.number, a) ∷ []) after.place after.progress =
     takes_at dbs lookup answers index copied a after.place after.progress s.valid place
     (subst (λ l. GoesOnWith index a dbs l copied after.place after.progress) (same ∙ s.lookup_is) goes)
-    (subst (λ l. Stands after.place dbs l [] after.progress) (same ∙ s.lookup_is) stands) from
+    (subst (λ l. Stands after.place dbs l [] after.progress) (same ∙ s.lookup_is) is_there) from
     in
     record {
       valid = s.valid;
       lookup_is = kept ∙ s.lookup_is;
-      place = subst (λ l. IsPlaceAfter dbs lookup l after.place after.progress) (sym (ap (λ chain. with_answer_to chain a answers) told)) taken;
+      place = subst (λ l. IsPlaceAfter dbs lookup l after.place after.progress) (sym (ap (λ chain. with_answer_to chain a answers) reported)) taken;
     }
 
 -- ---- one answer after the other
 
 -- a cursor that tells a question asks
 pub asks_as_told : (dbs : List Userdb) (cursor : UserCursor) (chain : UserChain) → IsAlong dbs cursor → TellsChain dbs cursor chain → IsAsk chain → IsAsking dbs cursor
-asks_as_told dbs cursor chain a told ask = (a.0, a.1, a.2, subst IsAsk (told a.0 a.1 a.2) ask)
+asks_as_told dbs cursor chain a reported ask = (a.0, a.1, a.2, subst IsAsk (reported a.0 a.1 a.2) ask)
 
 -- it stays one of the chain
 pub along_after : (dbs : List Userdb) (a : Answer) (before after : UserCursor) → IsAlong dbs before → TakesAnswer dbs a before after → IsAlong dbs after

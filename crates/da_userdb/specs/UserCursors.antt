@@ -22,7 +22,7 @@ IsFresh End answers = Unit {0}
 pub record IsPlaceAfter (dbs : List Userdb) (lookup : Lookup) (answers : Answers) (place : UserPlace) (progress : UserProgress) : Type 0 where
   -- whatever is answered later, the chain from the start goes on as it does from here
   pub rest : (more : Answers) → walk_from place dbs lookup (answers ++ more) progress ≡ user_chain dbs lookup (answers ++ more)
-  pub stands : Stands place dbs lookup answers progress
+  pub is_there : Stands place dbs lookup answers progress
   pub fresh : IsFresh place answers
 
 -- the cursor has taken these answers, in a chain of this lookup along these databases

@@ -12,8 +12,8 @@ use Rattle.da_userdb.specs.declared.database.UserChain.TheVariants.{Ask, NotFoun
 use Rattle.da_userdb.specs.declared.progress.Course.{Course}
 use Rattle.da_userdb.specs.declared.progress.Course.TheVariants.{GoesOn, Ends}
 use Rattle.da_userdb.specs.declared.progress.UserProgress.{UserProgress}
-use Rattle.da_userdb.specs.declared.step.Step.{Step}
-use Rattle.da_userdb.specs.declared.step.Step.TheVariants.{GoesOn as StepsOn, Asks, Ends as StepsOut}
+use Rattle.da_userdb.specs.declared.step.ChainStep.{ChainStep}
+use Rattle.da_userdb.specs.declared.step.ChainStep.TheVariants.{GoesOn as StepsOn, Asks, Ends as StepsOut}
 use Rattle.da_userdb.specs.declared.step.Subject.{Subject}
 use Rattle.da_userdb.specs.declared.walk.UserPlace.{UserPlace}
 use Rattle.da_userdb.specs.declared.walk.UserPlace.TheVariants.{Before, End}
@@ -34,13 +34,13 @@ followed GoesOn p = UserGoOn p
 followed Ends p = UserStop (user_end p)
 
 -- the same for a database of this number that may be asked
-abbrev pub stepped : Step → ℕ → UserProgress → UserMove
+abbrev pub stepped : ChainStep → ℕ → UserProgress → UserMove
 stepped StepsOn db p = UserGoOn p
 stepped Asks db p = UserStop (Ask db)
 stepped StepsOut db p = UserStop (user_end p)
 
 -- a database without an answer may be asked, and then nothing changes
-abbrev pub AsksUnchanged : Step → Option Answer → UserProgress → UserProgress → Type 0
+abbrev pub AsksUnchanged : ChainStep → Option Answer → UserProgress → UserProgress → Type 0
 AsksUnchanged Asks answer before after = (answer ≡ None) × (after ≡ before)
 AsksUnchanged _ answer before after = Unit {0}
 

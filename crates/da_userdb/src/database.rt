@@ -1,7 +1,7 @@
 // User databases, and what a chain of them comes to.
 
 ghost use Rattle.std.specs.Prelude.{◌≡◌, IfOk};
-ghost use Rattle.da_userdb.specs.UserChain as words;
+ghost use Rattle.da_userdb.specs.UserChain.{are_valid_userdbs, is_valid_userdb};
 
 use da_chain::are_templates;
 use da_fields::{Fields, Rule, Text};
@@ -48,7 +48,7 @@ pub struct Userdb {
 /// Whether the databases are numbered 1, 2 and so on in order, and the default and override fields of each have keys that
 /// aren't empty and templates as values. It takes no memory.
 pub fn are_valid_userdbs(dbs: &[Userdb]) -> bool
-    ensures { result ≡ words.are_valid_userdbs dbs.now }
+    ensures { result ≡ are_valid_userdbs dbs.now }
 {
     for (index, db) in dbs.iter().enumerate() {
         if db.number as usize != index + 1 || !db.is_valid() {
@@ -61,7 +61,7 @@ pub fn are_valid_userdbs(dbs: &[Userdb]) -> bool
 impl Userdb {
     // Whether its default and override fields have keys, and templates as values.
     fn is_valid(&self) -> bool
-        ensures { result ≡ words.is_valid_userdb self.now }
+        ensures { result ≡ is_valid_userdb self.now }
     {
         are_templates(&self.default_fields) && are_templates(&self.override_fields)
     }

@@ -1,7 +1,7 @@
 // The state of a chain.
 
 ghost use Rattle.std.specs.Prelude.{◌≡◌, IfOk};
-ghost use Rattle.da_userdb.specs.UserChain as words;
+ghost use Rattle.da_userdb.specs.UserChain.{by_user_rule, no_user_progress, user_end};
 ghost use Rattle.da_userdb.specs.UserPlaces.{followed};
 
 use crate::database::UserChain;
@@ -29,7 +29,7 @@ pub(crate) struct UserProgress {
 impl UserProgress {
     /// The state before the first database.
     pub(crate) fn new(alloc: Global) -> UserProgress
-        ensures { result ≡ words.no_user_progress }
+        ensures { result ≡ no_user_progress }
     {
         UserProgress {
             found: false,
@@ -51,7 +51,7 @@ impl UserProgress {
 
     /// What a chain that ends here finds.
     pub(crate) fn end(&self, alloc: Global) -> Result<UserChain, AllocError>
-        ensures { IfOk result (λ chain. chain ≡ words.user_end self.now) }
+        ensures { IfOk result (λ chain. chain ≡ user_end self.now) }
     {
         if self.found {
             let fields = self.fields.copy(alloc)?;
@@ -65,7 +65,7 @@ impl UserProgress {
 
     /// Obeys a rule: whether there is success, and whether the chain goes on.
     pub(crate) fn obey(&mut self, rule: Rule) -> Course
-        ensures { followed result self.new ≡ words.by_user_rule rule self.old }
+        ensures { followed result self.new ≡ by_user_rule rule self.old }
     {
         match rule {
             Rule::ReturnOk | Rule::ContinueOk => self.found = true,

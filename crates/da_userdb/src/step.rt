@@ -3,7 +3,7 @@
 ghost use Rattle.std.specs.Prelude.{◌≡◌, ℕ, IfOk, IsTrue, Option, Some, option_copied};
 ghost use Rattle.da_fields.specs.declared.answer.Answer.{Answer};
 ghost use Rattle.da_userdb.specs.declared.progress.UserProgress.{UserProgress};
-ghost use Rattle.da_userdb.specs.UserChain as words;
+ghost use Rattle.da_userdb.specs.UserChain.{after_user_outcome, is_user_skipped, is_valid_userdb, prefetch_move, user_answer_move, user_move, user_outcome, with_user_outcome};
 ghost use Rattle.da_userdb.specs.UserPlaces.{lookup_of, followed, stepped, AsksUnchanged};
 
 use crate::database::{Lookup, UserDriver, UserSkip, Userdb};
@@ -36,7 +36,7 @@ impl Lookup {
 
 /// What a database does to a chain.
 #[derive(Clone, Copy, Drop)]
-pub(crate) enum Step {
+pub(crate) enum ChainStep {
     /// The chain goes on to the next database.
     GoesOn,
     /// The database is asked.
@@ -46,7 +46,7 @@ pub(crate) enum Step {
 }
 
 fn is_skipped(skip: UserSkip, found: bool) -> bool
-    ensures { result ≡ words.is_user_skipped skip found }
+    ensures { result ≡ is_user_skipped skip found }
 {
     match skip {
         UserSkip::Never => false,
@@ -57,7 +57,7 @@ fn is_skipped(skip: UserSkip, found: bool) -> bool
 
 // The outcome of an answer.
 fn outcome_of(answer: &Answer) -> Outcome
-    ensures { result ≡ words.user_outcome answer.now }
+    ensures { result ≡ user_outcome answer.now }
 {
     match answer {
         Answer::Found { stored, .. } => {
@@ -81,8 +81,8 @@ fn take_outcome(
     found: &Fields,
     progress: &mut UserProgress,
 ) -> Result<(), AllocError>
-    requires { IsTrue (words.is_valid_userdb db.now) }
-    ensures { IfOk result (λ _. progress.new ≡ words.with_user_outcome db.now vars.now outcome found.now progress.old) }
+    requires { IsTrue (is_valid_userdb db.now) }
+    ensures { IfOk result (λ _. progress.new ≡ with_user_outcome db.now vars.now outcome found.now progress.old) }
 {
     match outcome {
         Outcome::Success => {
@@ -110,8 +110,8 @@ fn follow(
     found: &Fields,
     progress: &mut UserProgress,
 ) -> Result<Course, AllocError>
-    requires { IsTrue (words.is_valid_userdb db.now) }
-    ensures { IfOk result (λ course. followed course progress.new ≡ words.after_user_outcome db.now vars.now outcome found.now progress.old) }
+    requires { IsTrue (is_valid_userdb db.now) }
+    ensures { IfOk result (λ course. followed course progress.new ≡ after_user_outcome db.now vars.now outcome found.now progress.old) }
 {
     take_outcome(alloc, db, vars, outcome, found, progress)?;
     let rule = rule_for(
@@ -124,15 +124,15 @@ fn follow(
 }
 
 /// What a chain does after the answer of a database that was asked.
-pub(crate) fn settle(
+pub(crate) fn judge_answer(
     alloc: Global,
     db: &Userdb,
     subject: &Subject,
     answer: &Answer,
     progress: &mut UserProgress,
 ) -> Result<Course, AllocError>
-    requires { IsTrue (words.is_valid_userdb db.now) }
-    ensures { IfOk result (λ course. followed course progress.new ≡ words.user_answer_move db.now (lookup_of subject.now) progress.old (Some answer.now)) }
+    requires { IsTrue (is_valid_userdb db.now) }
+    ensures { IfOk result (λ course. followed course progress.new ≡ user_answer_move db.now (lookup_of subject.now) progress.old (Some answer.now)) }
 {
     let none = Fields::new(alloc);
     let outcome = outcome_of(answer);
@@ -147,8 +147,8 @@ fn prefetch(
     subject: &Subject,
     progress: &mut UserProgress,
 ) -> Result<Course, AllocError>
-    requires { IsTrue (words.is_valid_userdb db.now) }
-    ensures { IfOk result (λ course. followed course progress.new ≡ words.prefetch_move db.now (lookup_of subject.now) progress.old) }
+    requires { IsTrue (is_valid_userdb db.now) }
+    ensures { IfOk result (λ course. followed course progress.new ≡ prefetch_move db.now (lookup_of subject.now) progress.old) }
 {
     let part = userdb_part(alloc, subject.passdb_fields)?;
     let outcome = if part.pairs().is_empty() {
@@ -159,14 +159,14 @@ fn prefetch(
     follow(alloc, db, subject.vars, outcome, &part, progress)
 }
 
-impl Step {
-    fn of(course: Course) -> Step
+impl ChainStep {
+    fn of(course: Course) -> ChainStep
         ensures moves { (db : ℕ) (p : UserProgress) → stepped result db p ≡ followed course p }
         ensures asks { (answer : Option Answer) (before after : UserProgress) → AsksUnchanged result answer before after }
     {
         match course {
-            Course::GoesOn => Step::GoesOn,
-            Course::Ends => Step::Ends,
+            Course::GoesOn => ChainStep::GoesOn,
+            Course::Ends => ChainStep::Ends,
         }
     }
 }
@@ -179,21 +179,21 @@ pub(crate) fn visit(
     subject: &Subject,
     answer: Option<&Answer>,
     progress: &mut UserProgress,
-) -> Result<Step, AllocError>
-    requires { IsTrue (words.is_valid_userdb db.now) }
-    ensures moves { IfOk result (λ step. stepped step db.now.number progress.new ≡ words.user_move db.now (lookup_of subject.now) progress.old (option_copied answer.entry)) }
+) -> Result<ChainStep, AllocError>
+    requires { IsTrue (is_valid_userdb db.now) }
+    ensures moves { IfOk result (λ step. stepped step db.now.number progress.new ≡ user_move db.now (lookup_of subject.now) progress.old (option_copied answer.entry)) }
     ensures asks { IfOk result (λ step. AsksUnchanged step (option_copied answer.entry) progress.old progress.new) }
 {
     if is_skipped(db.skip, progress.found) {
-        return Ok(Step::GoesOn);
+        return Ok(ChainStep::GoesOn);
     }
     if db.driver == UserDriver::Prefetch {
         let course = prefetch(alloc, db, subject, progress)?;
-        return Ok(Step::of(course));
+        return Ok(ChainStep::of(course));
     }
     let Some(answer) = answer else {
-        return Ok(Step::Asks);
+        return Ok(ChainStep::Asks);
     };
-    let course = settle(alloc, db, subject, answer, progress)?;
-    Ok(Step::of(course))
+    let course = judge_answer(alloc, db, subject, answer, progress)?;
+    Ok(ChainStep::of(course))
 }

@@ -84,12 +84,12 @@ fn key_and_value(word: &[u8]) -> (&[u8], &[u8]) {
 }
 
 // The fields of some words.
-fn fields(alloc: Global, told: &[u8]) -> Result<Fields, AllocError> {
+fn fields(alloc: Global, reported: &[u8]) -> Result<Fields, AllocError> {
     let mut fields = Fields::new(alloc);
-    if told.is_empty() {
+    if reported.is_empty() {
         return Ok(fields);
     }
-    for word in told.split(|byte| *byte == b' ') {
+    for word in reported.split(|byte| *byte == b' ') {
         let (key, value) = key_and_value(word);
         fields.set(text(alloc, key)?, text(alloc, value)?)?;
     }
@@ -97,8 +97,8 @@ fn fields(alloc: Global, told: &[u8]) -> Result<Fields, AllocError> {
 }
 
 // The answer that a text tells: a letter, and fields. `S` has a stored password, which no user database gives.
-fn answer(alloc: Global, told: &[u8]) -> Result<Answer, AllocError> {
-    let Some((letter, rest)) = told.split_first() else {
+fn answer(alloc: Global, reported: &[u8]) -> Result<Answer, AllocError> {
+    let Some((letter, rest)) = reported.split_first() else {
         return Ok(Answer::Unknown);
     };
     let fields = fields(alloc, rest)?;
@@ -139,13 +139,13 @@ fn shown(alloc: Global, chain: &UserChain) -> Result<Vec<u8>, AllocError> {
 }
 
 // The answers of the databases 1, 2 and so on, with bars between them.
-fn numbered(alloc: Global, told: &[u8]) -> Result<Vec<(u32, Answer)>, AllocError> {
+fn numbered(alloc: Global, reported: &[u8]) -> Result<Vec<(u32, Answer)>, AllocError> {
     let mut answers = Vec::new(alloc);
-    if told.is_empty() {
+    if reported.is_empty() {
         return Ok(answers);
     }
     let mut number: u32 = 0;
-    for one in told.split(|byte| *byte == b'|') {
+    for one in reported.split(|byte| *byte == b'|') {
         number = number.saturating_add(1);
         answers.push((number, answer(alloc, one)?))?;
     }
@@ -157,7 +157,7 @@ fn told_at_once(
     alloc: Global,
     scene: Scene,
     given: &[u8],
-    told: &[u8],
+    reported: &[u8],
 ) -> Result<Vec<u8>, AllocError> {
     let dbs = databases(alloc, scene)?;
     if !are_valid_userdbs(&dbs) {
@@ -166,7 +166,7 @@ fn told_at_once(
     let user = text(alloc, b"alice@example.com")?;
     let given = fields(alloc, given)?;
     let vars = variables(alloc)?;
-    let answers = numbered(alloc, told)?;
+    let answers = numbered(alloc, reported)?;
     let chain = user_next(alloc, &dbs, &user, &given, &vars, &answers)?;
     shown(alloc, &chain)
 }
@@ -208,7 +208,7 @@ fn told_by_cursor(
     alloc: Global,
     scene: Scene,
     given: &[u8],
-    told: &[u8],
+    reported: &[u8],
 ) -> Result<Vec<u8>, AllocError> {
     let dbs = databases(alloc, scene)?;
     if !are_valid_userdbs(&dbs) {
@@ -217,7 +217,7 @@ fn told_by_cursor(
     let user = text(alloc, b"alice@example.com")?;
     let given = fields(alloc, given)?;
     let vars = variables(alloc)?;
-    let answers = numbered(alloc, told)?;
+    let answers = numbered(alloc, reported)?;
     let mut cursor = UserCursor::new(alloc, &dbs, user, given, vars)?;
     take_all(alloc, &dbs, &mut cursor, &answers)?;
     let copy = cursor.copy(alloc)?;
@@ -261,8 +261,8 @@ const CASES: [(Scene, &str, &str, &str); 16] = [
 
 #[test]
 fn all_answers_at_once_lead_to_what_is_found(rt: HostRuntime) -> Result<(), Fail> {
-    for (scene, given, told, want) in CASES {
-        let chain = told_at_once(rt.alloc(), scene, given.as_bytes(), told.as_bytes())?;
+    for (scene, given, reported, want) in CASES {
+        let chain = told_at_once(rt.alloc(), scene, given.as_bytes(), reported.as_bytes())?;
         assert_eq!(rt; chain.as_slice(), want.as_bytes());
     }
     Ok(())
@@ -270,8 +270,8 @@ fn all_answers_at_once_lead_to_what_is_found(rt: HostRuntime) -> Result<(), Fail
 
 #[test]
 fn one_answer_after_the_other_leads_there_too(rt: HostRuntime) -> Result<(), Fail> {
-    for (scene, given, told, want) in CASES {
-        let chain = told_by_cursor(rt.alloc(), scene, given.as_bytes(), told.as_bytes())?;
+    for (scene, given, reported, want) in CASES {
+        let chain = told_by_cursor(rt.alloc(), scene, given.as_bytes(), reported.as_bytes())?;
         assert_eq!(rt; chain.as_slice(), want.as_bytes());
     }
     Ok(())

@@ -9,7 +9,7 @@ ghost use Rattle.da_userdb.specs.UserPlaces.{lookup_of, walk_from, told_at, IsFr
 
 use crate::database::{UserChain, Userdb};
 use crate::progress::{Course, UserProgress};
-use crate::step::{Step, Subject, settle, visit};
+use crate::step::{ChainStep, Subject, judge_answer, visit};
 use da_chain::answer_from;
 use da_fields::Answer;
 use std::alloc::{AllocError, Global};
@@ -53,16 +53,16 @@ pub(crate) fn walk(
 ) -> Result<UserPlace, AllocError>
     requires { IsTrue (list_all is_valid_userdb dbs.now) }
     ensures rest { IfOk result (λ place. (more : Answers) → walk_from place dbs.now (lookup_of subject.now) (answers.now ++ more) progress.new ≡ user_walk (drop from dbs.now) (lookup_of subject.now) (answers.now ++ more) progress.old) }
-    ensures stands { IfOk result (λ place. Stands place dbs.now (lookup_of subject.now) answers.now progress.new) }
+    ensures is_there { IfOk result (λ place. Stands place dbs.now (lookup_of subject.now) answers.now progress.new) }
     ensures from { IfOk result (λ place. IsFrom from place) }
 {
     for index in from..dbs.len() {
         let db = &dbs[index];
         let answer = answer_from(db.number, answers);
         match visit(alloc, db, subject, answer, progress)? {
-            Step::GoesOn => {}
-            Step::Asks => return Ok(UserPlace::Before(index)),
-            Step::Ends => return Ok(UserPlace::End),
+            ChainStep::GoesOn => {}
+            ChainStep::Asks => return Ok(UserPlace::Before(index)),
+            ChainStep::Ends => return Ok(UserPlace::End),
         }
     }
     Ok(UserPlace::End)
@@ -81,11 +81,11 @@ pub(crate) fn walk_answered(
     requires within { index < length dbs.now }
     requires asked { Stands (Before index) dbs.now (lookup_of subject.now) [] progress.old }
     ensures rest { IfOk result (λ place. GoesOnWith index answer.now dbs.now (lookup_of subject.now) progress.old place progress.new) }
-    ensures stands { IfOk result (λ place. Stands place dbs.now (lookup_of subject.now) [] progress.new) }
+    ensures is_there { IfOk result (λ place. Stands place dbs.now (lookup_of subject.now) [] progress.new) }
     ensures from { IfOk result (λ place. IsFrom (index + 1) place) }
 {
     let db = &dbs[index];
-    match settle(alloc, db, subject, answer, progress)? {
+    match judge_answer(alloc, db, subject, answer, progress)? {
         Course::GoesOn => walk(alloc, dbs, subject, &[], index + 1, progress),
         Course::Ends => Ok(UserPlace::End),
     }

@@ -77,8 +77,8 @@ line_cut-few max bytes = rw (line_cut-append max [] bytes (All-nil (λ x. eqb x 
 -- ---- the run goes on
 
 -- before the first byte
-running_start : (pass users : List Bytes) (told : Told) (left contents : Option Bytes) → Running pass users told told left left contents contents (new_cutter 8192) 1 (2 ^ 30)
-running_start pass users told left contents =
+running_start : (pass users : List Bytes) (reported : Told) (left contents : Option Bytes) → Running pass users reported reported left left contents contents (new_cutter 8192) 1 (2 ^ 30)
+running_start pass users reported left contents =
     record {
       taken = [];
       answered = [];
@@ -91,14 +91,14 @@ running_start pass users told left contents =
       count = refl;
       bytes = refl;
       are_turns = tt;
-      files = ReadsFiles-nil told;
+      files = ReadsFiles-nil reported;
     }
 
 -- the loop begins, over a new cutter
-pub started : (pass users : List Bytes) (told : Told) (left contents : Option Bytes) (cutter : Cutter) → cutter ≡ new_cutter 8192
-    → Running pass users told told left left contents contents cutter 1 (2 ^ 30)
-started pass users told left contents cutter new =
-    subst (λ (c : Cutter). Running pass users told told left left contents contents c 1 (2 ^ 30)) (sym new) (running_start pass users told left contents)
+pub started : (pass users : List Bytes) (reported : Told) (left contents : Option Bytes) (cutter : Cutter) → cutter ≡ new_cutter 8192
+    → Running pass users reported reported left left contents contents cutter 1 (2 ^ 30)
+started pass users reported left contents cutter new =
+    subst (λ (c : Cutter). Running pass users reported reported left left contents contents c 1 (2 ^ 30)) (sym new) (running_start pass users reported left contents)
 
 front_fed : (front : List Bytes) (c : Cutter) (bytes : Bytes)
     → record (after_feed c bytes) { ready = front ++ (after_feed c bytes).ready } ≡ after_feed (record c { ready = front ++ c.ready }) bytes

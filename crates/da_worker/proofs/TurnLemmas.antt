@@ -43,8 +43,8 @@ count_where-append test (x ∷ xs) ys =
 RoseBy-trans : (a b c m n : ℕ) → RoseBy a b m → RoseBy b c n → RoseBy a c (m + n)
 RoseBy-trans a b c m n one two = omega arith
 
-pub ReadsFiles-nil : (told : Told) → ReadsFiles told told []
-ReadsFiles-nil told = record { held = refl; past = Gains-nil told.past; faults = omega arith }
+pub ReadsFiles-nil : (reported : Told) → ReadsFiles reported reported []
+ReadsFiles-nil reported = record { held = refl; past = Gains-nil reported.past; faults = omega arith }
 
 pub ReadsFiles-trans : (a b c : Told) (xs ys : List FileRead) → ReadsFiles a b xs → ReadsFiles b c ys → ReadsFiles a c (xs ++ ys)
 ReadsFiles-trans a b c xs ys one two =

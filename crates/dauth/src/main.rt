@@ -37,12 +37,12 @@ fn complain<W: Write>(to: &mut W, words: &[u8]) -> io::Result<()> {
 
 /// Tells the words of a status, if it has any. Where no memory is left for them, that is told.
 fn tell<W: Write>(alloc: Global, to: &mut W, status: &Status) {
-    let told = match status.words(alloc) {
+    let reported = match status.words(alloc) {
         Ok(words) if words.is_empty() => Ok(()),
         Ok(words) => complain(to, &words),
         Err(AllocError) => complain(to, b"no memory"),
     };
-    let _ = told;
+    let _ = reported;
 }
 
 /// Makes the call of the command that the words name. An error where the random source can't be had.

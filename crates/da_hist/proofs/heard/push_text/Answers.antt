@@ -1,8 +1,8 @@
 use Rattle.std.proofs.Common.{◌∙◌, sym, arith, ap, set}
-use Rattle.da_hist.specs.LinesHeard.{with_text}
+use Rattle.da_hist.specs.Lines.{with_text}
 use Rattle.da_hist.proofs.RowChanges.{set_changed, changed_past, changed_none}
-use Rattle.da_hist.proofs.heard.push_text.Goals.{else-number-gt0-via-then-number-gt0+else-number-requests, else-number-gt0-via-else-number-gt0}
-use Rattle.da_hist.proofs.heard.push_text.Goals as goal
+use Rattle.da_hist.proofs.after_input.push_text.Goals.{else-number-gt0-via-then-number-gt0+else-number-requests, else-number-gt0-via-else-number-gt0}
+use Rattle.da_hist.proofs.after_input.push_text.Goals as goal
 
 pub returns-in_ok-push_text : goal.returns-in_ok-push_text
 returns-in_ok-push_text c =

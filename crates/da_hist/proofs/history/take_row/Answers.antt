@@ -1,5 +1,5 @@
 use Rattle.std.proofs.Common.{◌∙◌, sym, arith, ap, set}
-use Rattle.da_hist.specs.History.{taken}
+use Rattle.da_hist.specs.History.{as_taken}
 use Rattle.da_hist.proofs.RowChanges.{set_changed, changed_past, changed_none}
 use Rattle.da_hist.proofs.history.take_row.Goals.{else-number-gt0-via-then-number-gt0+else-number-queries, else-number-gt0-via-else-number-gt0}
 use Rattle.da_hist.proofs.history.take_row.Goals as goal

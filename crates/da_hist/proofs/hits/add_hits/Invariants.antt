@@ -4,8 +4,8 @@ use Rattle.da_hist.proofs.hits.add_hits.Given as goal
 
 abbrev pub invariant-loop-left : goal.invariant-loop-left
 invariant-loop-left l =
-    l.hits.items ++ words.hits_from l.left l.settings l.moment l.state l.request
-    ≡ l.fn.hits.items ++ words.hits_from l.fn.databases l.fn.settings l.fn.moment l.fn.state l.fn.request
+    l.hits.items ++ words.hits_from l.left l.settings l.moment l.tables l.request
+    ≡ l.fn.hits.items ++ words.hits_from l.fn.databases l.fn.settings l.fn.moment l.fn.tables l.fn.request
 
 abbrev pub decreases-loop-left : goal.decreases-loop-left
 decreases-loop-left l = l.left

@@ -4,4 +4,4 @@ use Rattle.da_hist.specs.Queries.{key_of}
 use Rattle.da_hist.proofs.hits.newest.Given as goal
 
 abbrev pub invariant-loop-number : goal.invariant-loop-number
-invariant-loop-number l = words.newest_among l.state (key_of l.question) (drop l.number-index l.state.recordings) ≡ words.newest l.state (key_of l.question)
+invariant-loop-number l = words.newest_among l.tables (key_of l.question) (drop l.number-index l.tables.cacheable) ≡ words.newest l.tables (key_of l.question)

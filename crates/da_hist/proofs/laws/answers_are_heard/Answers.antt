@@ -1,5 +1,5 @@
-use Rattle.da_hist.proofs.OwnAnswers.{answers_are_heard}
-use Rattle.da_hist.proofs.laws.answers_are_heard.Goals as goal
+use Rattle.da_hist.proofs.OwnAnswers.{answers_are_read}
+use Rattle.da_hist.proofs.laws.answers_are_read.Goals as goal
 
 pub returns : goal.returns
-returns c = answers_are_heard
+returns c = answers_are_read

@@ -1,5 +1,5 @@
-use Rattle.da_hist.proofs.CheckLaw.{checks_are_tests}
-use Rattle.da_hist.proofs.laws.checks_are_tests.Goals as goal
+use Rattle.da_hist.proofs.ComparisonLaw.{comparisons_are_of_passwords}
+use Rattle.da_hist.proofs.laws.comparisons_are_of_passwords.Goals as goal
 
 pub returns : goal.returns
-returns c = checks_are_tests
+returns c = comparisons_are_of_passwords

@@ -1,5 +1,5 @@
-use Rattle.da_hist.proofs.HeardAnswers.{recordings_are_heard}
-use Rattle.da_hist.proofs.laws.recordings_are_heard.Goals as goal
+use Rattle.da_hist.proofs.AnswerReadings.{cacheable_are_read}
+use Rattle.da_hist.proofs.laws.cacheable_are_read.Goals as goal
 
 pub returns : goal.returns
-returns c = recordings_are_heard
+returns c = cacheable_are_read

@@ -1,5 +1,5 @@
-use Rattle.da_hist.proofs.HeardTests.{tests_are_heard}
-use Rattle.da_hist.proofs.laws.tests_are_heard.Goals as goal
+use Rattle.da_hist.proofs.ComparisonReadings.{comparisons_are_read}
+use Rattle.da_hist.proofs.laws.comparisons_are_read.Goals as goal
 
 pub returns : goal.returns
-returns c = tests_are_heard
+returns c = comparisons_are_read

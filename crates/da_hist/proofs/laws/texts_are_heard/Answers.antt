@@ -1,5 +1,5 @@
-use Rattle.da_hist.proofs.HeardTexts.{texts_are_heard}
-use Rattle.da_hist.proofs.laws.texts_are_heard.Goals as goal
+use Rattle.da_hist.proofs.TextReadings.{texts_are_read}
+use Rattle.da_hist.proofs.laws.texts_are_read.Goals as goal
 
 pub returns : goal.returns
-returns c = texts_are_heard
+returns c = texts_are_read

@@ -6,6 +6,6 @@ use Rattle.da_hist.proofs.queries.first_waiting.Given as goal
 
 abbrev pub invariant-loop-asked : goal.invariant-loop-asked
 invariant-loop-asked l = record {
-  number : words.first_waiting l.state ≡ further_by l.asked-index (number_where (words.is_waiting l.state) (drop l.asked-index l.state.queries));
+  number : words.first_waiting l.tables ≡ further_by l.asked-index (number_where (words.is_waiting l.tables) (drop l.asked-index l.tables.queries));
   counted : l.before ≡ l.asked-index;
 }

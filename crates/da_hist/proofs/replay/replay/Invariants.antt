@@ -1,10 +1,10 @@
 use Rattle.std.proofs.Common.{◌≡◌, ◌-◌, take, reverse}
-use Rattle.da_hist.specs.History.{state}
+use Rattle.da_hist.specs.History.{tables_of}
 use Rattle.da_hist.specs.Legal.{size}
 use Rattle.da_hist.proofs.replay.replay.Given as goal
 
 abbrev pub invariant-loop-entry : goal.invariant-loop-entry
 invariant-loop-entry l = record {
-  state : l.state ≡ state l.settings (reverse (take l.entry-index l.entries));
+  tables : l.tables ≡ tables_of l.settings (reverse (take l.entry-index l.entries));
   left : l.left ≡ l.settings.history_bytes - size l.settings (reverse (take l.entry-index l.entries));
 }

@@ -1,5 +1,5 @@
 use Rattle.std.proofs.Common.{◌∙◌, sym, arith, ap}
-use Rattle.da_hist.specs.LinesHeard.{with_pid}
+use Rattle.da_hist.specs.Lines.{with_pid}
 use Rattle.da_hist.proofs.RowChanges.{set_changed, changed_past, changed_none}
 use Rattle.da_hist.proofs.tables.set_pid.Goals.{else-conn-gt0-via-then-conn-gt0+else-conn-connections, else-conn-gt0-via-else-conn-gt0}
 use Rattle.da_hist.proofs.tables.set_pid.Goals as goal

@@ -25,8 +25,8 @@ databases-preserved c =
       further = further_jump c.args.from_part c.args.from c.databases.part c.databases.index masters c.databases.invariant.further;
     }
 
-pub returns-in-Asks-clause-stands : goal.returns-in-Asks-clause-stands
-returns-in-Asks-clause-stands c = (
+pub returns-in-Asks-clause-is_there : goal.returns-in-Asks-clause-is_there
+returns-in-Asks-clause-is_there c = (
   c.index-dbs-index.result,
   slice_get_read c.args.dbs.now (length c.args.dbs.now) c.databases.index c.index-dbs-index.result refl (omega arith) c.index-dbs-index.is,
   asked_here c.databases.part c.index-dbs-index.result c.args.login.now c.args.answers.now c.databases.progress c.visit.new.progress _

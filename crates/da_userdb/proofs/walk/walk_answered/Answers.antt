@@ -10,7 +10,7 @@ returns-in-GoesOn-clause-rest c =
     rest answers
     ∙ sym (
     walk_answered c.args.dbs.now c.args.index (lookup_of c.args.subject.now) c.args.progress.now c.args.answer.now c.index-dbs-index.result _
-    c.index-dbs-index.is c.requires.asked (rw c.in-GoesOn.is at c.in_ok-settle.ensures) db answers here given
+    c.index-dbs-index.is c.requires.asked (rw c.in-GoesOn.is at c.in_ok-judge_answer.ensures) db answers here given
     ))
     c.walk.ensures.rest
 
@@ -18,5 +18,5 @@ pub returns-in-Ends-clause-rest : goal.returns-in-Ends-clause-rest
 returns-in-Ends-clause-rest c = λ db answers here given.
     sym (
     walk_answered c.args.dbs.now c.args.index (lookup_of c.args.subject.now) c.args.progress.now c.args.answer.now c.index-dbs-index.result _
-    c.index-dbs-index.is c.requires.asked (rw c.in-Ends.is at c.in_ok-settle.ensures) db answers here given
+    c.index-dbs-index.is c.requires.asked (rw c.in-Ends.is at c.in_ok-judge_answer.ensures) db answers here given
     )

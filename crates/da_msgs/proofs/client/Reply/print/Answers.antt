@@ -12,12 +12,12 @@ unfolding reply_line
 returns-in_ok-push_optional-in-Ok c =
     let id = decimal c.in-Ok.id in
     let user = field_text (codes "user", c.in-Ok.user) in
-    let told = map field_text (visible c.in-Ok.fields) in
+    let reported = map field_text (visible c.in-Ok.fields) in
     let shown =
     c.in_ok-push_pairs-in-Ok.ensures {u = tt} ∙ ap (λ v. c.push_pair.new.line.items ++ more_fields (map field_text v)) (c.in_ok-visible-in-Ok.ensures {u = tt}) in
     let one = next (codes "OK") (id ∷ []) (user ∷ []) _ _ (c.in_ok-line-in-Ok.ensures {u = tt}) (c.in_ok-push_pair-in-Ok.ensures {u = tt}) in
-    let two = next (codes "OK") (id ∷ user ∷ []) told _ _ one shown in
-    next (codes "OK") (id ∷ user ∷ told) (optional_field (codes "resp") c.in-Ok.last) _ _ two (c.in_ok-push_optional-in-Ok.ensures {u = tt})
+    let two = next (codes "OK") (id ∷ user ∷ []) reported _ _ one shown in
+    next (codes "OK") (id ∷ user ∷ reported) (optional_field (codes "resp") c.in-Ok.last) _ _ two (c.in_ok-push_optional-in-Ok.ensures {u = tt})
     ∙ ap reply_line (sym c.in-Ok.is)
 
 pub returns-in_ok-push_optional-in-Fail-2 : goal.returns-in_ok-push_optional-in-Fail-2

@@ -12,5 +12,5 @@ returns c =
       login_is = refl;
       stand =
           starts c.args.dbs.now c.args.login c.first-part.result c.new-progress.result c.in_ok-stand.stand c.first-part.ensures c.new-progress.ensures
-          c.in_ok-stand.ensures.rest c.in_ok-stand.ensures.stands;
+          c.in_ok-stand.ensures.rest c.in_ok-stand.ensures.is_there;
     }

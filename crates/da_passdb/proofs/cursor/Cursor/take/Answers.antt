@@ -19,5 +19,5 @@ returns-clause-ok c =
     takes c.args.dbs.now c.args.answer c.args.self.now (
     record { alloc = c.args.self.now.alloc; login = c.args.self.now.login; stand = c.in_ok-after.after }
     )
-    c.in-Before.index c.in_ok-before.before c.in-Before.is (c.in_ok-before.ensures {u = tt}) refl c.in_ok-after.ensures.rest c.in_ok-after.ensures.stands
+    c.in-Before.index c.in_ok-before.before c.in-Before.is (c.in_ok-before.ensures {u = tt}) refl c.in_ok-after.ensures.rest c.in_ok-after.ensures.is_there
     c.in_ok-after.ensures.further

@@ -13,5 +13,5 @@ returns c =
       lookup_is = refl;
       place =
           starts c.args.dbs.now (lookup_of c.subject.result) (lookup_for c.args.user c.args.passdb_fields c.args.vars) c.in_ok-place.place c.new-progress.result
-          c.walk.new.progress c.subject.ensures c.new-progress.ensures c.in_ok-place.ensures.rest c.in_ok-place.ensures.stands;
+          c.walk.new.progress c.subject.ensures c.new-progress.ensures c.in_ok-place.ensures.rest c.in_ok-place.ensures.is_there;
     }

@@ -21,4 +21,4 @@ returns-clause-ok c =
     record { alloc = c.args.self.now.alloc; lookup = c.args.self.now.lookup; place = c.in_ok-place.place; progress = c.walk_answered.new.progress }
     )
     c.in-Before.index (lookup_of c.subject-subject.result) c.in_ok-progress.progress c.in-Before.is c.subject-subject.ensures
-    (c.in_ok-progress.ensures {u = tt}) refl c.in_ok-place.ensures.rest c.in_ok-place.ensures.stands c.in_ok-place.ensures.from
+    (c.in_ok-progress.ensures {u = tt}) refl c.in_ok-place.ensures.rest c.in_ok-place.ensures.is_there c.in_ok-place.ensures.from

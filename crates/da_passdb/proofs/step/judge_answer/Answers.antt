@@ -2,7 +2,7 @@ use Rattle.std.proofs.Common.{Some, ◌∙◌}
 use Rattle.std.proofs.lemmas.Result.{IfOk-weaker}
 use Rattle.da_passdb.specs.Places.{asked_name}
 use Rattle.da_passdb.proofs.Moves.{asked_denied, asked_others}
-use Rattle.da_passdb.proofs.step.settle.Goals as goal
+use Rattle.da_passdb.proofs.step.judge_answer.Goals as goal
 
 pub returns-then-db-clause-moves : goal.returns-then-db-clause-moves
 returns-then-db-clause-moves c =
