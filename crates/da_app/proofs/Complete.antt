@@ -13,10 +13,10 @@ use Rattle.da_tabline.proofs.StreamLemmas.{after_feed-append}
 use Rattle.da_app.specs.declared.status.Status.{Status}
 use Rattle.da_app.specs.declared.status.Status.TheVariants.{Done, Usage, BadScript, LongScript, BadInput, NoSettings, NoListen, NoMemory, ReadFault, WriteFault, Full, BadSettings}
 use Rattle.da_config.specs.SettingsText.{settings_of}
-use Rattle.da_hist.specs.declared.settings.Settings.{Settings}
-use Rattle.da_hist.specs.declared.input.Entry.{Entry}
-use Rattle.da_hist.specs.Legal.{is_full}
-use Rattle.da_hist.specs.Play.{Event, history_after}
+use Rattle.da_settings.specs.declared.settings.Settings.{Settings}
+use Rattle.da_play.specs.declared.input.Entry.{Entry}
+use Rattle.da_play.specs.Legal.{is_full}
+use Rattle.da_play.specs.Play.{Event, history_after}
 use Rattle.da_script.specs.Events.{event_of}
 use Rattle.da_script.specs.Scripts.{script_cut, with_event, events_from}
 use Rattle.da_app.specs.Script.{bad_from, or_bad, first_bad, first_bad_at_end, full_from, first_full}

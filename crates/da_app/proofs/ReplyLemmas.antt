@@ -4,20 +4,21 @@ use Rattle.std.proofs.KnownBytes.{Keeps-refl}
 use Rattle.std.proofs.lemmas.Bool.{cases_Bool}
 use Rattle.std.proofs.lemmas.Option.{same_Some}
 use Rattle.da_base.specs.Words.{Bytes, option_or_else}
-use Rattle.da_hist.specs.declared.input.Entry.{Entry}
-use Rattle.da_hist.specs.declared.input.Input.{Input}
-use Rattle.da_hist.specs.declared.input.Input.TheVariants.{Opened, Line, Broken, Gone, Take, Answered, Late, Tick}
-use Rattle.da_hist.specs.declared.outputs.Outputs.{Outputs}
-use Rattle.da_hist.specs.declared.outputs.Refused.{Refused}
-use Rattle.da_hist.specs.declared.outputs.Refused.TheVariants.{HistoryFull, ConnLimit, NoConn, NothingWaits, NotTaken, NotLate, NoMemory}
-use Rattle.da_hist.specs.declared.settings.Settings.{Settings}
-use Rattle.da_hist.specs.declared.state.State.{State}
-use Rattle.da_hist.specs.History.{state}
-use Rattle.da_hist.specs.Legal.{is_full, entry_moment, open_count, late_from}
-use Rattle.da_hist.specs.Queries.{is_running_in}
-use Rattle.da_hist.specs.Play.{Event, unless, late_refusal, input_refusal, refusal, next_entry, outputs, reply, history_after}
-use Rattle.da_hist.specs.Served.{Served}
-use Rattle.da_hist.specs.Steps.{IsRefused, IsEntered, Steps}
+use Rattle.da_play.specs.declared.input.Entry.{Entry}
+use Rattle.da_play.specs.declared.input.Input.{Input}
+use Rattle.da_play.specs.declared.input.Input.TheVariants.{Opened, Line, Broken, Gone, Take, Answered, Late, Tick}
+use Rattle.da_play.specs.declared.outputs.Outputs.{Outputs}
+use Rattle.da_play.specs.declared.outputs.Refused.{Refused}
+use Rattle.da_play.specs.declared.outputs.Refused.TheVariants.{HistoryFull, ConnLimit, NoConn, NothingWaits, NotTaken, NotLate, NoMemory}
+use Rattle.da_settings.specs.declared.settings.Settings.{Settings}
+use Rattle.da_tables.specs.declared.tables.Tables.{Tables}
+use Rattle.da_play.specs.History.{tables_of}
+use Rattle.da_play.specs.Legal.{is_full, entry_moment, late_from}
+use Rattle.da_tables.specs.Connections.{open_count}
+use Rattle.da_tables.specs.Queries.{is_running_in}
+use Rattle.da_play.specs.Play.{Event, unless, late_refusal, input_refusal, refusal, next_entry, outputs, reply, history_after}
+use Rattle.da_play.specs.Served.{Served}
+use Rattle.da_play.specs.Steps.{IsRefused, IsEntered, Steps}
 use Rattle.da_script.specs.Events.{event_of}
 use Rattle.da_script.specs.Replies.{reply_text, outputs_text, refused_text}
 use Rattle.da_app.specs.declared.play.Turn.{Turn}
@@ -64,7 +65,7 @@ late_query_not_full : (b : Bool) (moment query : ℕ) (due : Option ℕ) → con
 late_query_not_full true moment query due e = late_not_full moment query due e
 late_query_not_full false moment query due e = cc
 
-input_not_full : (s : Settings) (st : State) (m : ℕ) (input : Input) → input_refusal s st m input ≡ Some HistoryFull → ⊥
+input_not_full : (s : Settings) (st : Tables) (m : ℕ) (input : Input) → input_refusal s st m input ≡ Some HistoryFull → ⊥
 input_not_full s st m (Opened kind random) e = unless_not_full _ (ConnLimit (open_count st)) tt e
 input_not_full s st m (Line conn text random) e = unless_not_full _ (NoConn conn) tt e
 input_not_full s st m (Broken conn) e = unless_not_full _ (NoConn conn) tt e

@@ -10,11 +10,11 @@ use Rattle.da_base.specs.Words.{Bytes, is_empty}
 use Rattle.da_outside.specs.Causes.{Rose}
 use Rattle.da_tabline.specs.Lines.{Cutter, line_cut, new_cutter, after_feed, after_take}
 use Rattle.da_tabline.proofs.StreamLemmas.{after_feed-append}
-use Rattle.da_hist.specs.declared.settings.Settings.{Settings}
-use Rattle.da_hist.specs.declared.input.Entry.{Entry}
-use Rattle.da_hist.specs.Legal.{is_full}
-use Rattle.da_hist.specs.Play.{Event, reply, history_after, play}
-use Rattle.da_hist.specs.Served.{Served}
+use Rattle.da_settings.specs.declared.settings.Settings.{Settings}
+use Rattle.da_play.specs.declared.input.Entry.{Entry}
+use Rattle.da_play.specs.Legal.{is_full}
+use Rattle.da_play.specs.Play.{Event, reply, history_after, play}
+use Rattle.da_play.specs.Served.{Served}
 use Rattle.da_app.specs.declared.status.Status.{Status}
 use Rattle.da_app.specs.declared.status.Status.TheVariants.{Done, BadScript, LongScript, NoMemory, ReadFault, WriteFault, Full}
 use Rattle.da_script.specs.Events.{event_of}
@@ -30,17 +30,17 @@ use Rattle.da_app.specs.Play.{PlaysEvent, PlaysFront, MeetsFull, Ends, Ran}
 pub record Running (s : Settings) (left_before left_now before now : Option Bytes) (cutter : Cutter) (server : Served) (number budget : ℕ) : Type 0 where
   pub taken : Bytes
   pub played : List Bytes
-  pub heard : List Event
+  pub known : List Event
   pub written : Bytes
   pub reads : Consumes left_before left_now taken
   pub writes : Appends before now written
   pub fed : record cutter { ready = played ++ cutter.ready } ≡ after_feed (new_cutter 16384) taken
-  pub events : (more : List Bytes) → events_from (played ++ more) ≡ heard ++ events_from more
-  pub output : (more : List Event) → output_of s (heard ++ more) ≡ written ++ replies_text number (play s server.history more)
-  pub full : (more : List Event) → full_from s [] 1 (heard ++ more) ≡ full_from s server.history number more
+  pub events : (more : List Bytes) → events_from (played ++ more) ≡ known ++ events_from more
+  pub output : (more : List Event) → output_of s (known ++ more) ≡ written ++ replies_text number (play s server.history more)
+  pub full : (more : List Event) → full_from s [] 1 (known ++ more) ≡ full_from s server.history number more
   pub bad : (more : List Bytes) → bad_from 1 (played ++ more) ≡ bad_from number more
   pub count : number ≡ length played + 1
-  pub counted : number ≡ length heard + 1
+  pub counted : number ≡ length known + 1
   pub bytes : length taken + budget ≡ 2 ^ 30
   pub settings : server.settings ≡ s
 
@@ -80,7 +80,7 @@ running_start s left contents server same none =
     record {
       taken = [];
       played = [];
-      heard = [];
+      known = [];
       written = [];
       reads = Consumes-nil left;
       writes = Appends-nil contents;
@@ -118,7 +118,7 @@ running_fed s left_before left_now left_new before now cutter new server number 
     record {
       taken = run.taken ++ feeds.bytes;
       played = run.played;
-      heard = run.heard;
+      known = run.known;
       written = run.written;
       reads = Consumes-trans left_before left_now left_new run.taken feeds.bytes run.reads feeds.reads;
       writes = run.writes;
@@ -154,7 +154,7 @@ running_played s left_before left_now before now later old new server after numb
     record {
       taken = run.taken;
       played = run.played ++ line ∷ [];
-      heard = run.heard ++ event ∷ [];
+      known = run.known ++ event ∷ [];
       written = run.written ++ text;
       reads = run.reads;
       writes = Appends-trans before now later run.written text run.writes writes;
@@ -164,21 +164,21 @@ running_played s left_before left_now before now later old new server after numb
           ∙ run.fed;
       events = λ more.
           ap events_from (append_assoc run.played (line ∷ []) more) ∙ run.events (line ∷ more)
-          ∙ ap (λ es. run.heard ++ es) (events_from-event line more event plays.spelled)
-          ∙ sym (append_assoc run.heard (event ∷ []) (events_from more));
+          ∙ ap (λ es. run.known ++ es) (events_from-event line more event plays.spelled)
+          ∙ sym (append_assoc run.known (event ∷ []) (events_from more));
       output = λ more.
-          ap (output_of s) (append_assoc run.heard (event ∷ []) more) ∙ run.output (event ∷ more)
+          ap (output_of s) (append_assoc run.known (event ∷ []) more) ∙ run.output (event ∷ more)
           ∙ ap (λ m. run.written ++ (text ++ replies_text m (play s (history_after s server.history event.0 event.1) more))) (sym (add-one number))
           ∙ sym (append_assoc run.written text (replies_text (number + 1) (play s (history_after s server.history event.0 event.1) more)))
           ∙ ap (λ h. (run.written ++ text) ++ replies_text (number + 1) (play s h more)) (sym history);
       full = λ more.
-          ap (full_from s [] 1) (append_assoc run.heard (event ∷ []) more) ∙ run.full (event ∷ more)
+          ap (full_from s [] 1) (append_assoc run.known (event ∷ []) more) ∙ run.full (event ∷ more)
           ∙ full_from-room s server.history number event more room
           ∙ ap (λ h. full_from s h (number + 1) more) (sym history);
       bad = λ more.
           ap (bad_from 1) (append_assoc run.played (line ∷ []) more) ∙ run.bad (line ∷ more) ∙ bad_from-event number line more event plays.spelled;
       count = let count = run.count in omega (arith, length_push run.played line);
-      counted = let counted = run.counted in omega (arith, length_push run.heard event);
+      counted = let counted = run.counted in omega (arith, length_push run.known event);
       bytes = run.bytes;
       settings = ap (λ (v : Served). v.settings) plays.goes_on ∙ run.settings;
     }
@@ -211,7 +211,7 @@ module _ {s : Settings} {left_before left_now before now : Option Bytes} {cutter
   long_is : (script_cut run.taken).is_long ≡ cutter.is_long
   long_is = ap (λ (c : Cutter). c.is_long) (sym run.fed)
 
-  events_are : events run.taken ≡ run.heard ++ events_from cutter.ready
+  events_are : events run.taken ≡ run.known ++ events_from cutter.ready
   events_are = ap events_from lines_are ∙ run.events cutter.ready
 
   output_is : output s run.taken ≡ run.written ++ replies_text number (play s server.history (events_from cutter.ready))
@@ -347,13 +347,13 @@ module _ {s : Settings} {left_before left_now before now : Option Bytes} {cutter
       let next : events_from cutter.ready ≡ meets.event ∷ events_from rest = ap events_from first ∙ events_from-event line rest meets.event meets.spelled in
       let full : is_full s server.history ≡ true = subst (λ t. is_full t server.history ≡ true) run.settings meets.full in
       let counted = run.counted in
-      let before_it : take (number - 1) (events run.taken) ≡ run.heard =
-      ap (take (number - 1)) events_are ∙ take_at run.heard (events_from cutter.ready) (number - 1) (omega arith) in
+      let before_it : take (number - 1) (events run.taken) ≡ run.known =
+      ap (take (number - 1)) events_are ∙ take_at run.known (events_from cutter.ready) (number - 1) (omega arith) in
       ends left_now now_end r0 r1 w0 w1 Full (Keeps-refl left_now) meets.keeps (record {
         line = number;
         meets = full_is ∙ ap (full_from s server.history number) next ∙ full_from-full s server.history number meets.event (events_from rest) full;
         short = within;
-        writes = sym (ap (output_of s) (before_it ∙ sym (append-nil run.heard)) ∙ run.output [] ∙ append-nil run.written);
+        writes = sym (ap (output_of s) (before_it ∙ sym (append-nil run.known)) ∙ run.output [] ∙ append-nil run.written);
       })
 
   pub ends_write : (now_end : Option Bytes) (r0 r1 w0 w w1 : ℕ) (line : Bytes) (rest : List Bytes) → cutter.ready ≡ line ∷ rest → w0 ≤ w → PlaysFront number line server now now_end w w1

@@ -4,7 +4,7 @@ use Rattle.std.specs.Prelude.{IfSome}
 use Rattle.std.specs.Io.KnownBytes.{Keeps}
 use Rattle.da_base.specs.Words.{Bytes}
 use Rattle.da_outside.specs.Files.{bytes_at}
-use Rattle.da_hist.specs.declared.settings.Settings.{Settings}
+use Rattle.da_settings.specs.declared.settings.Settings.{Settings}
 use Rattle.da_config.specs.SettingsText.{settings_of}
 use Rattle.da_worker.specs.declared.worker.WorkerStatus.{WorkerStatus}
 use Rattle.da_worker.specs.declared.worker.WorkerStatus.TheVariants.{Done as WorkDone, BadInput as BadLine, LongInput, ReadFault as WorkReadFault, WriteFault as WorkWriteFault, NoMemory as WorkNoMemory}

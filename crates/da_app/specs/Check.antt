@@ -6,7 +6,7 @@ use Rattle.da_outside.specs.Causes.{Rose}
 use Rattle.da_outside.specs.Files.{File, bytes_at}
 use Rattle.da_outside.specs.Past.{Stays}
 use Rattle.da_outside.specs.declared.files.FileRead.{FileRead}
-use Rattle.da_hist.specs.declared.settings.Settings.{Settings}
+use Rattle.da_settings.specs.declared.settings.Settings.{Settings}
 use Rattle.da_config.specs.SettingsText.{settings_of}
 use Rattle.da_app.specs.declared.status.Status.{Status}
 use Rattle.da_app.specs.declared.status.Status.TheVariants.{Done, Usage, NoSettings, NoMemory, WriteFault, BadSettings}

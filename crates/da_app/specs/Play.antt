@@ -3,12 +3,12 @@ use Rattle.std.specs.Prelude.{◌≡◌, ◌<◌, ◌≤◌, ℕ, ◌-◌, ◌^�
 use Rattle.std.specs.Io.KnownBytes.{Consumes, Appends, Keeps, IsAtEnd}
 use Rattle.da_base.specs.Words.{Bytes}
 use Rattle.da_outside.specs.Causes.{Rose}
-use Rattle.da_hist.specs.declared.settings.Settings.{Settings}
-use Rattle.da_hist.specs.declared.outputs.Refused.{Refused}
-use Rattle.da_hist.specs.declared.outputs.Refused.TheVariants.{HistoryFull, ConnLimit, NoConn, NothingWaits, NotTaken, NotLate, NoMemory as RefusedNoMemory}
-use Rattle.da_hist.specs.Legal.{is_full}
-use Rattle.da_hist.specs.Play.{Event, reply, history_after}
-use Rattle.da_hist.specs.Served.{Served}
+use Rattle.da_settings.specs.declared.settings.Settings.{Settings}
+use Rattle.da_play.specs.declared.outputs.Refused.{Refused}
+use Rattle.da_play.specs.declared.outputs.Refused.TheVariants.{HistoryFull, ConnLimit, NoConn, NothingWaits, NotTaken, NotLate, NoMemory as RefusedNoMemory}
+use Rattle.da_play.specs.Legal.{is_full}
+use Rattle.da_play.specs.Play.{Event, reply, history_after}
+use Rattle.da_play.specs.Served.{Served}
 use Rattle.da_script.specs.Events.{event_of}
 use Rattle.da_script.specs.Replies.{reply_text}
 use Rattle.da_script.specs.Scripts.{events}

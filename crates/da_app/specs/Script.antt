@@ -1,10 +1,10 @@
 -- A script as a text: its first line that is no event, its first event that meets a full history, and its output.
 use Rattle.std.specs.Prelude.{ℕ, suc, Bool, ◌||◌, not, List, [], ◌∷◌, length, Option, Some, None, if◌then◌else◌, is_some}
 use Rattle.da_base.specs.Words.{Bytes, is_empty}
-use Rattle.da_hist.specs.declared.settings.Settings.{Settings}
-use Rattle.da_hist.specs.declared.input.Entry.{Entry}
-use Rattle.da_hist.specs.Legal.{is_full}
-use Rattle.da_hist.specs.Play.{Event, history_after, play}
+use Rattle.da_settings.specs.declared.settings.Settings.{Settings}
+use Rattle.da_play.specs.declared.input.Entry.{Entry}
+use Rattle.da_play.specs.Legal.{is_full}
+use Rattle.da_play.specs.Play.{Event, history_after, play}
 use Rattle.da_script.specs.Events.{event_of}
 use Rattle.da_script.specs.Scripts.{script_cut, events}
 use Rattle.da_script.specs.Replies.{replies_text}

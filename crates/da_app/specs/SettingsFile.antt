@@ -5,7 +5,7 @@ use Rattle.da_outside.specs.Causes.{Rose}
 use Rattle.da_outside.specs.Files.{bytes_at}
 use Rattle.da_outside.specs.Past.{Gains}
 use Rattle.da_outside.specs.declared.faults.Got.TheVariants.{Given, Fault as GotFault}
-use Rattle.da_hist.specs.declared.settings.Settings.{Settings}
+use Rattle.da_settings.specs.declared.settings.Settings.{Settings}
 use Rattle.da_config.specs.declared.fault.FaultKind.TheVariants.{Range}
 use Rattle.da_config.specs.declared.fault.ConfigFault.{ConfigFault}
 use Rattle.da_config.specs.declared.fault.ConfigFault.TheVariants.{Bad, NoMemory as TextNoMemory}

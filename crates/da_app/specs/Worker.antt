@@ -10,7 +10,7 @@ use Rattle.da_passdb.specs.declared.database.Driver.TheVariants.{PasswdFile, Wor
 use Rattle.da_userdb.specs.declared.database.Userdb.{Userdb}
 use Rattle.da_userdb.specs.declared.database.UserDriver.{UserDriver}
 use Rattle.da_userdb.specs.declared.database.UserDriver.TheVariants.{PasswdFile as UserPasswdFile, Worker as UserWorker, Prefetch}
-use Rattle.da_hist.specs.declared.settings.Settings.{Settings}
+use Rattle.da_settings.specs.declared.settings.Settings.{Settings}
 use Rattle.da_config.specs.SettingsText.{settings_of}
 use Rattle.da_worker.specs.declared.worker.WorkerStatus.{WorkerStatus}
 use Rattle.da_worker.specs.declared.worker.WorkerStatus.TheVariants.{Done as WorkDone, BadInput as BadLine, LongInput, ReadFault as WorkReadFault, WriteFault as WorkWriteFault, NoMemory as WorkNoMemory}

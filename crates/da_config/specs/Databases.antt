@@ -3,8 +3,8 @@ use Rattle.std.specs.Prelude.{◌≡◌, ℕ, suc, Bool, true, false, ◌&&◌, 
 use Rattle.da_base.specs.Words.{Bytes, after_byte}
 use Rattle.da_fields.specs.FieldList.{Pairs, field, with_field, text_key, text_value}
 use Rattle.da_fields.specs.declared.outcome.Rule.{Rule}
-use Rattle.da_hist.specs.SettingsRanges.{first_conflict}
-use Rattle.da_hist.specs.DefaultSettings.{default_passdb}
+use Rattle.da_settings.specs.SettingsRanges.{first_conflict}
+use Rattle.da_settings.specs.DefaultSettings.{default_passdb}
 use Rattle.da_names.specs.Templates.{is_template_field}
 use Rattle.da_passdb.specs.declared.database.Driver.{Driver}
 use Rattle.da_passdb.specs.declared.database.Passdb.{Passdb}

@@ -1,7 +1,7 @@
 -- The mechanisms of a server, by their names.
 use Rattle.std.specs.Prelude.{◌&&◌, List, [], ◌∷◌, length, Option, Some, None, option_map, option_and_then, Result, if◌then◌else◌, nat_le, codes}
 use Rattle.da_base.specs.Words.{Bytes}
-use Rattle.da_hist.specs.SettingsRanges.{are_distinct}
+use Rattle.da_settings.specs.SettingsRanges.{are_distinct}
 use Rattle.da_msgs.specs.declared.kinds.Mech.{Mech}
 use Rattle.da_config.specs.declared.fault.Fault.{Fault}
 use Rattle.da_config.specs.Reading.{◌>>=◌, in_range}

@@ -1,9 +1,9 @@
 -- The table of the whole document: its keys in their order, each with its range and what stands where it is missing.
 use Rattle.std.specs.Prelude.{◌≡◌, ℕ, ◌<◌, ◌≤◌, ◌^◌, true, List, [], ◌∷◌, length, Option, Some, None, Result, Ok, if◌then◌else◌, IfSome, nat_le, codes}
 use Rattle.da_base.specs.Words.{Bytes}
-use Rattle.da_hist.specs.SettingsRanges.{is_host, are_name_characters, is_ascii, are_distinct, first_conflict}
-use Rattle.da_hist.specs.DefaultSettings.{default_username_chars}
-use Rattle.da_hist.specs.declared.settings.Settings.{Settings}
+use Rattle.da_settings.specs.SettingsRanges.{is_host, are_name_characters, is_ascii, are_distinct, first_conflict}
+use Rattle.da_settings.specs.DefaultSettings.{default_username_chars}
+use Rattle.da_settings.specs.declared.settings.Settings.{Settings}
 use Rattle.da_passdb.specs.LoginChain.{are_valid_passdbs}
 use Rattle.da_userdb.specs.UserChain.{are_valid_userdbs}
 use Rattle.da_config.specs.declared.fault.Fault.{Fault}

@@ -2,7 +2,7 @@
 use Rattle.std.specs.Prelude.{[], Option, Some, None, Result, Err, length, if◌then◌else◌, nat_lt, codes}
 use Rattle.std.specs.Str.{is_utf8}
 use Rattle.da_base.specs.Words.{Bytes}
-use Rattle.da_hist.specs.declared.settings.Settings.{Settings}
+use Rattle.da_settings.specs.declared.settings.Settings.{Settings}
 use Rattle.toml.specs.Data.{Members}
 use Rattle.toml.specs.Parse.{parse_document}
 use Rattle.da_config.specs.declared.fault.Fault.{Fault}

@@ -8,7 +8,7 @@ ghost use Rattle.da_config.specs.Parts.{AreTables, are_few, are_tables, few_tabl
 use crate::fault::{ConfigFault, FaultKind};
 use crate::part::TomlTable;
 use da_fields::Text;
-use da_hist::Texts;
+use da_settings::Texts;
 use std::alloc::{AllocError, Global};
 use toml::Value;
 

@@ -1,7 +1,7 @@
 // The databases of a server.
 ghost use Rattle.std.specs.Prelude.{◌≡◌, ◌≤◌, ◌∷◌, ◌++◌, [], true, length, option_map, Some, None, IfOk, IfSome, OnOk};
-ghost use Rattle.da_hist.specs.SettingsRanges.{has_conflict, first_conflict};
-ghost use Rattle.da_hist.specs.DefaultSettings.{default_passdb};
+ghost use Rattle.da_settings.specs.SettingsRanges.{has_conflict, first_conflict};
+ghost use Rattle.da_settings.specs.DefaultSettings.{default_passdb};
 ghost use Rattle.da_passdb.specs.LoginChain.{are_valid_passdbs};
 ghost use Rattle.da_userdb.specs.UserChain.{are_valid_userdbs};
 ghost use Rattle.toml.specs.View.{items_view};
@@ -14,7 +14,7 @@ use crate::part::TomlTable;
 use crate::passdb::passdb;
 use crate::userdb::userdb;
 use da_fields::Text;
-use da_hist::{Passdbs, Userdbs, default_passdb};
+use da_settings::{Passdbs, Userdbs, default_passdb};
 use da_passdb::{Driver, Passdb};
 use std::alloc::{AllocError, Global};
 use toml::Value;

@@ -8,7 +8,7 @@ use crate::fault::{ConfigFault, Fault, FaultKind};
 use crate::part::TomlTable;
 use crate::server::settings;
 use da_fields::Text;
-use da_hist::Settings;
+use da_settings::Settings;
 use std::alloc::{AllocError, Global};
 use toml::Table;
 

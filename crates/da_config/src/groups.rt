@@ -1,6 +1,6 @@
 // The settings of a server in groups, in the order in which their keys are looked at.
 use da_fields::Text;
-use da_hist::{Mechs, Passdbs, Texts, Userdbs};
+use da_settings::{Mechs, Passdbs, Texts, Userdbs};
 
 /// Who the server is, and which names it takes.
 #[derive(Drop)]

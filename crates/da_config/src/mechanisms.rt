@@ -1,6 +1,6 @@
 // The mechanisms of a server, by their names.
 ghost use Rattle.std.specs.Prelude.{◌≡◌, ◌≤◌, ◌∷◌, [], codes, true, length, IfOk};
-ghost use Rattle.da_hist.specs.SettingsRanges.{has_mechanism, are_distinct};
+ghost use Rattle.da_settings.specs.SettingsRanges.{has_mechanism, are_distinct};
 ghost use Rattle.da_config.specs.Reading.{IsRead};
 ghost use Rattle.da_config.specs.Parts.{part_of};
 ghost use Rattle.da_config.specs.Mechanisms.{mechanisms_called, mechanisms_of};
@@ -9,7 +9,7 @@ use crate::choices::mechanism_called;
 use crate::fault::{ConfigFault, FaultKind};
 use crate::part::TomlTable;
 use da_fields::Text;
-use da_hist::{Mechs, Texts};
+use da_settings::{Mechs, Texts};
 use da_msgs::Mech;
 use std::alloc::{AllocError, Global};
 

@@ -2,7 +2,7 @@
 // missing.
 ghost use Rattle.std.specs.Prelude.{◌≡◌, ◌≤◌, true, length, IfOk, IfSome};
 ghost use Rattle.std.specs.List.{list_all};
-ghost use Rattle.da_hist.specs.SettingsRanges.{are_name_characters, is_ascii, is_host, is_host_character};
+ghost use Rattle.da_settings.specs.SettingsRanges.{are_name_characters, is_ascii, is_host, is_host_character};
 ghost use Rattle.da_config.specs.Reading.{IsRead};
 ghost use Rattle.da_config.specs.Parts.{part_of};
 ghost use Rattle.da_config.specs.Servers.{DatabasesFit, LimitsFit, NamesFit, SpansFit, WorkersFit, command_of, databases_of, host_of, limits_of, names_of, separator_in, separator_of, settings_in, spans_of, username_chars_of, workers_of};
@@ -13,7 +13,7 @@ use crate::groups::{Databases, Limits, NameSettings, Durations, Workers};
 use crate::mechanisms::mechanisms;
 use crate::part::TomlTable;
 use da_fields::Text;
-use da_hist::{Settings, Texts};
+use da_settings::{Settings, Texts};
 use std::alloc::Global;
 
 const KEYS: [&str; 20] = [

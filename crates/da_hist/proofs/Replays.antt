@@ -1,13 +1,13 @@
 -- A history that is gone through entry by entry, from the oldest on.
-use Rattle.std.proofs.Common.{◌≡◌, refl, sym, ◌∙◌, ap, ap₂, List, [], ◌∷◌, ◌++◌, ℕ, ◌+◌, ◌-◌, ◌<◌, length, reverse, take, get_or, sum_by, arith}
+use Rattle.std.proofs.Common.{◌≡◌, ◌∙◌, ap, ap₂, List, [], ◌∷◌, ℕ, ◌+◌, ◌-◌, ◌<◌, length, reverse, take, get_or, sum_by, arith}
 use Rattle.std.proofs.lemmas.List.{take_more, reverse-append}
-use Rattle.da_hist.specs.Effects.{lines, effects}
-use Rattle.da_hist.specs.History.{tables_of, after}
-use Rattle.da_hist.specs.Legal.{size, input_size}
-use Rattle.da_hist.specs.declared.effects.Effects.{Effects}
-use Rattle.da_hist.specs.declared.input.Entry.{Entry}
-use Rattle.da_hist.specs.declared.settings.Settings.{Settings}
-use Rattle.da_hist.specs.declared.state.Tables.{Tables}
+use Rattle.da_play.specs.Effects.{lines, effects}
+use Rattle.da_play.specs.History.{tables_of, after}
+use Rattle.da_play.specs.Legal.{size, input_size}
+use Rattle.da_play.specs.declared.effects.Effects.{Effects}
+use Rattle.da_play.specs.declared.input.Entry.{Entry}
+use Rattle.da_settings.specs.declared.settings.Settings.{Settings}
+use Rattle.da_tables.specs.declared.tables.Tables.{Tables}
 
 -- one entry further, the newest first
 pub one_further : (entries : List Entry) (i : ℕ) (d e : Entry) → i < length entries → get_or entries i d ≡ e → reverse (take (i + 1) entries) ≡ e ∷ reverse (take i entries)

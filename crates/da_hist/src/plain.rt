@@ -1,26 +1,26 @@
 // The server computed from its history.
 
-ghost use Rattle.std.specs.Prelude.{◌≡◌, ◌<◌, ◌^◌, ◌-◌, [], ◌∷◌, Ok, Some, reverse, length, IfOk, IfErr, OnOk, option_map, option_and_then};
+ghost use Rattle.std.specs.Prelude.{◌≡◌, ◌<◌, ◌^◌, ◌-◌, [], ◌∷◌, length, IfOk, option_map, option_and_then, reverse, Ok, IfErr, OnOk};
 ghost use Rattle.da_base.specs.Words.{nth};
-ghost use Rattle.da_hist.specs.History.{after_input, with_due_replied, after};
-ghost use Rattle.da_hist.specs.Effects.{effects};
-ghost use Rattle.da_hist.specs.Legal.{last_moment};
-ghost use Rattle.da_hist.specs.Play.{hits_for, outputs_with};
-ghost use Rattle.da_hist.specs.Queries.{query_with as words_query_with};
-ghost use Rattle.da_hist.specs.Steps.{Steps, Tries};
+ghost use Rattle.da_answers.specs.Bridges.{Tries};
+ghost use Rattle.da_play.specs.Effects.{effects};
+ghost use Rattle.da_play.specs.History.{after_input, after};
+ghost use Rattle.da_play.specs.Legal.{last_moment};
+ghost use Rattle.da_play.specs.Play.{hits_for, outputs_with};
+ghost use Rattle.da_play.specs.Steps.{Steps};
+ghost use Rattle.da_tables.specs.Queries.{query_with as words_query_with};
+ghost use Rattle.da_tables.specs.Tables.{with_due_replied};
 
-use crate::effects::{Effects, due_lines, own_lines};
-use crate::hits::{database_count, hits_from};
-use crate::input::{Entry, Input};
-use crate::lists::{Numbers, Sent};
-use crate::numbered::row;
-use crate::outputs::{Outputs, Refused};
-use crate::queries::query_with;
+use crate::history::apply_input;
+use crate::effects::{apply_entry, due_lines, own_lines};
 use crate::refusals::input_refusal;
 use crate::replay::replay;
-use crate::settings::{Goal, Settings};
-use crate::state::Tables;
+use da_answers::{database_count, hits_from};
 use da_fields::Query;
+use da_play::{Effects, Entry, Input, Outputs, Refused, Sent};
+use da_request::row;
+use da_settings::{Goal, Settings};
+use da_tables::{Numbers, Tables, query_with};
 use std::alloc::{AllocError, Global};
 use std::marker::Model;
 
@@ -46,11 +46,11 @@ fn hits_of(
 {
     let mut ahead = tables.copy(alloc)?;
     ahead.reply_due(alloc, settings, moment)?;
-    let effect = ahead.apply_input(alloc, settings, moment, input)?;
+    let effect = apply_input(&mut ahead, alloc, settings, moment, input)?;
     let Some(number) = effect.continued else {
         return Ok(Vec::new(alloc));
     };
-    match row(&ahead.requests.items, number) {
+    match row(ahead.requests.all(), number) {
         Some(request) => hits_from(
             alloc,
             settings,
@@ -73,7 +73,7 @@ fn query_of(
     let Some(number) = handed_out else {
         return Ok(None);
     };
-    match row(&tables.queries.items, number) {
+    match row(tables.queries.all(), number) {
         Some(query_row) => Ok(Some(query_with(alloc, number, query_row)?)),
         None => Ok(None),
     }
@@ -112,7 +112,7 @@ fn enter(
     requires requests { length tables.requests < 2 ^ 32 - 1 }
     requires connections { length tables.connections < 2 ^ 32 - 1 }
     requires queries { length tables.queries < 2 ^ 32 - 1 }
-    ensures entry { IfOk result (λ entered. entered.entry ≡ record { moment = moment; input = input; hits = hits_for settings.now moment tables_of (after_input settings.now moment input (with_due_replied settings.now moment tables)) }) }
+    ensures entry { IfOk result (λ entered. entered.entry ≡ record { moment = moment; input = input; hits = hits_for settings.now moment tables (after_input settings.now moment input (with_due_replied settings.now moment tables)) }) }
     ensures outputs { IfOk result (λ entered. entered.outputs ≡ outputs_with settings.now number entered.entry.hits (after settings.now tables entered.entry) (effects settings.now tables entered.entry)) }
 {
     let hits = Numbers::new(hits_of(alloc, settings, &tables, moment, &input)?);
@@ -121,7 +121,7 @@ fn enter(
         input,
         hits,
     };
-    let effects = tables.enter(alloc, settings, &entry)?;
+    let effects = apply_entry(&mut tables, alloc, settings, &entry)?;
     let outputs = outputs_of(alloc, settings, number, &entry.hits, &tables, &effects)?;
     Ok(Entered { entry, outputs })
 }
@@ -136,7 +136,7 @@ fn moment_after(entries: &[Entry]) -> u64
 }
 
 /// What comes of an input after these entries: the next entry and what it gives out, or why there is none.
-#[tactic(auto, unfolding(crate::specs::Play::refusal, crate::specs::Play::next_entry, crate::specs::Play::outputs, crate::specs::Play::hits))]
+#[tactic(auto, unfolding(da_play::specs::Play::refusal, da_play::specs::Play::next_entry, da_play::specs::Play::outputs, da_play::specs::Play::hits))]
 fn next_of(
     alloc: Global,
     settings: &Settings,
@@ -177,7 +177,7 @@ pub struct Plain {
 
 impl Model for Plain {
     ghost use Rattle.std.specs.Prelude.{reverse};
-    ghost use Rattle.da_hist.specs.Served.{Served};
+    ghost use Rattle.da_play.specs.Served.{Served};
 
     ghost Value = { Served };
 

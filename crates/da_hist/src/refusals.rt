@@ -3,22 +3,20 @@
 ghost use Rattle.std.specs.Prelude.{◌≡◌, ◌<◌, ◌^◌, ◌-◌, ℕ, length};
 ghost use Rattle.da_base.specs.Words.{Bytes};
 ghost use Rattle.da_msgs.specs.declared.kinds.ConnKind.{ConnKind};
-ghost use Rattle.da_hist.specs.declared.input.Input.TheVariants.{Opened};
-ghost use Rattle.da_hist.specs.Play.{input_refusal, late_refusal, unless};
-ghost use Rattle.da_hist.specs.Legal.{late_from};
+ghost use Rattle.da_play.specs.Legal.{late_from};
+ghost use Rattle.da_play.specs.Play.{late_refusal, unless, input_refusal};
+ghost use Rattle.da_play.specs.declared.input.Input.TheVariants.{Opened};
 
-use crate::input::Input;
-use crate::numbered::row;
-use crate::outputs::Refused;
-use crate::queries::{first_waiting, is_running_in};
-use crate::settings::Settings;
-use crate::state::Tables;
+use da_play::{Input, Refused};
+use da_request::row;
+use da_settings::Settings;
+use da_tables::{Tables, first_waiting, is_running_in};
 
 /// The moment from which the query of this number is late, where it was taken.
 fn moment_of_lateness(settings: &Settings, tables: &Tables, query: u32) -> Option<u64>
     ensures { result ≡ late_from settings.now tables.now query }
 {
-    let query_row = row(&tables.queries.items, query)?;
+    let query_row = row(tables.queries.all(), query)?;
     let taken = query_row.taken?;
     Some(taken.saturating_add(settings.query_limit))
 }

@@ -1,15 +1,15 @@
 // The replay of a history: the tables at its end, and how much it may still grow.
 
-ghost use Rattle.std.specs.Prelude.{◌≡◌, ◌<◌, ◌+◌, ◌-◌, ◌^◌, length, reverse, sum_by, IfOk};
-ghost use Rattle.da_hist.specs.History.{tables_of};
-ghost use Rattle.da_hist.specs.Legal.{size, input_size};
-ghost use Rattle.da_hist.specs.Effects.{lines};
+ghost use Rattle.std.specs.Prelude.{◌≡◌, ◌<◌, ◌+◌, ◌-◌, ◌^◌, length, sum_by, IfOk, reverse};
+ghost use Rattle.da_play.specs.Effects.{lines};
+ghost use Rattle.da_play.specs.History.{tables_of};
+ghost use Rattle.da_play.specs.Legal.{input_size, size};
 
-use crate::effects::{Effects, due_lines, own_lines};
-use crate::input::Entry;
-use crate::settings::Settings;
-use crate::sizes::{after_input, after_lines};
-use crate::state::Tables;
+use crate::effects::{apply_entry, due_lines, own_lines};
+use crate::sizes::{left_after_input, left_after_lines};
+use da_play::{Effects, Entry};
+use da_settings::Settings;
+use da_tables::Tables;
 use std::alloc::{AllocError, Global};
 
 /// The bytes that an entry counts beside its texts and lines.
@@ -35,8 +35,8 @@ fn left_after(
     ensures { IfOk result (λ rest. rest ≡ left - (64 + input_size entry.now.input + sum_by (λ l. length l.1) (lines settings.now tables.now effects.now))) }
 {
     let rest = left_after_input(left.saturating_sub(ENTRY_SIZE), &entry.input);
-    let rest = after_lines(rest, &due_lines(alloc, settings, tables, effects)?);
-    Ok(after_lines(rest, &own_lines(alloc, settings, tables, effects)?))
+    let rest = left_after_lines(rest, &due_lines(alloc, settings, tables, effects)?);
+    Ok(left_after_lines(rest, &own_lines(alloc, settings, tables, effects)?))
 }
 
 /// Goes through the entries of a history, the oldest first.
@@ -52,7 +52,7 @@ pub(crate) fn replay(
     let mut tables = Tables::new(alloc);
     let mut left = settings.history_bytes;
     for entry in entries {
-        let effects = tables.enter(alloc, settings, entry)?;
+        let effects = apply_entry(&mut tables, alloc, settings, entry)?;
         left = left_after(alloc, settings, &tables, &effects, entry, left)?;
     }
     Ok(Replayed { tables, left })

@@ -1,10 +1,10 @@
 // How much a history may still grow.
 
 ghost use Rattle.std.specs.Prelude.{◌≡◌, ◌-◌, length, sum_by};
-ghost use Rattle.da_hist.specs.Legal.{answer_size, input_size, pairs_size};
+ghost use Rattle.da_play.specs.Legal.{pairs_size, answer_size, input_size};
 
-use crate::input::Input;
 use da_fields::{Answer, Fields, Text};
+use da_play::Input;
 
 /// What is left of a number of bytes after a text of this length.
 fn spend(left: u64, length: usize) -> u64
@@ -45,7 +45,7 @@ pub(crate) fn left_after_input(left: u64, input: &Input) -> u64
 }
 
 /// What is left of a number of bytes after these lines.
-pub(crate) fn after_lines(left: u64, lines: &[(u32, Text)]) -> u64
+pub(crate) fn left_after_lines(left: u64, lines: &[(u32, Text)]) -> u64
     ensures { result ≡ left - sum_by (λ l. length l.1) lines.now }
 {
     let mut rest = left;

@@ -13,9 +13,9 @@ use Rattle.da_msgs.specs.declared.kinds.ConnKind.TheVariants.{Client, Master}
 use Rattle.da_query.specs.AnswerLines.{Numbered, script_answer}
 use Rattle.da_query.proofs.QueryReading.{number_again}
 use Rattle.da_query.proofs.AnswerReading.{script_answer-spells, script_answer-from}
-use Rattle.da_hist.specs.declared.input.Input.{Input}
-use Rattle.da_hist.specs.declared.input.Input.TheVariants.{Opened, Line, Broken, Gone, Take, Answered, Late, Tick}
-use Rattle.da_hist.specs.Play.{Event}
+use Rattle.da_play.specs.declared.input.Input.{Input}
+use Rattle.da_play.specs.declared.input.Input.TheVariants.{Opened, Line, Broken, Gone, Take, Answered, Late, Tick}
+use Rattle.da_play.specs.Play.{Event}
 use Rattle.da_script.specs.Random.{random_of, random_text}
 use Rattle.da_script.specs.Events.{answered, event_after, event_of, event_with, fits_a_script, input_alone, input_by, input_of, input_with, input_words, kind_of, kind_word, line_after, line_with, opened, opened_with}
 use Rattle.da_script.specs.EventSpelling.{SpellsInput, SpellsEvent}

@@ -21,8 +21,8 @@ use Rattle.da_msgs.specs.declared.kinds.ConnKind.TheVariants.{Client, Master}
 use Rattle.da_query.specs.AnswerLines.{answer_line}
 use Rattle.da_query.proofs.PrintedAgain.{answer_line-Lacks_end, script_answer-plain, script_answered_again}
 use Rattle.da_query.proofs.QueryReading.{number_again}
-use Rattle.da_hist.specs.declared.input.Input.{Input}
-use Rattle.da_hist.specs.declared.input.Input.TheVariants.{Opened, Line, Broken, Gone, Take, Answered, Late, Tick}
+use Rattle.da_play.specs.declared.input.Input.{Input}
+use Rattle.da_play.specs.declared.input.Input.TheVariants.{Opened, Line, Broken, Gone, Take, Answered, Late, Tick}
 use Rattle.da_script.specs.Random.{AreRandom, random_text}
 use Rattle.da_script.specs.Events.{answered, event_after, event_line, event_of, fits_a_script, input_of, input_words, kind_word, line_of, IsPlain, InputIsHeld}
 use Rattle.da_script.proofs.RandomTexts.{random_again, random_text-Lacks_space, random_text-Lacks_end}

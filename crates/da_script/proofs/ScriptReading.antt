@@ -4,8 +4,8 @@ use Rattle.std.proofs.lemmas.Bool.{le-leb}
 use Rattle.std.proofs.lemmas.List.{reverse-append}
 use Rattle.da_base.specs.Words.{Bytes}
 use Rattle.da_tabline.proofs.LineLemmas.{line_cut_at}
-use Rattle.da_hist.specs.declared.input.Entry.{Entry}
-use Rattle.da_hist.specs.PlayLaws.{event_of as own_event, events_of}
+use Rattle.da_play.specs.declared.input.Entry.{Entry}
+use Rattle.da_play.specs.Play.{event_of as own_event, events_of}
 use Rattle.da_script.specs.Events.{event_line}
 use Rattle.da_script.specs.Scripts.{AreScripted, IsScripted, events, events_from, script}
 use Rattle.da_script.proofs.PrintedEvents.{event_again, event_line-Lacks_end}

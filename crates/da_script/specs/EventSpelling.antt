@@ -3,8 +3,8 @@ use Rattle.std.specs.Prelude.{◌≡◌, ◌≤◌, ◌<◌, ℕ, ◌^◌, false
 use Rattle.std.specs.List.{list_any}
 use Rattle.da_base.specs.Words.{Bytes}
 use Rattle.da_query.specs.AnswerSpelling.{SpellsScriptAnswer}
-use Rattle.da_hist.specs.declared.input.Input.{Input}
-use Rattle.da_hist.specs.declared.input.Input.TheVariants.{Opened, Line, Broken, Gone, Take, Answered, Late, Tick}
+use Rattle.da_play.specs.declared.input.Input.{Input}
+use Rattle.da_play.specs.declared.input.Input.TheVariants.{Opened, Line, Broken, Gone, Take, Answered, Late, Tick}
 use Rattle.da_script.specs.Events.{InputIsHeld, input_words}
 
 -- the words spell the input

@@ -7,9 +7,9 @@ use Rattle.da_msgs.specs.declared.kinds.ConnKind.{ConnKind}
 use Rattle.da_msgs.specs.declared.kinds.ConnKind.TheVariants.{Client, Master}
 use Rattle.da_query.specs.AnswerLines.{answer_line, script_answer}
 use Rattle.da_query.specs.AnswerSpelling.{IsHeld}
-use Rattle.da_hist.specs.declared.input.Input.{Input}
-use Rattle.da_hist.specs.declared.input.Input.TheVariants.{Opened, Line, Broken, Gone, Take, Answered, Late, Tick}
-use Rattle.da_hist.specs.Play.{Event}
+use Rattle.da_play.specs.declared.input.Input.{Input}
+use Rattle.da_play.specs.declared.input.Input.TheVariants.{Opened, Line, Broken, Gone, Take, Answered, Late, Tick}
+use Rattle.da_play.specs.Play.{Event}
 use Rattle.da_script.specs.Random.{AreRandom, random_of, random_text}
 
 -- ---- what happens

@@ -4,9 +4,9 @@ use Rattle.std.specs.List.{flat_map}
 use Rattle.da_base.specs.Words.{Bytes}
 use Rattle.da_fields.specs.declared.answer.Query.{Query}
 use Rattle.da_query.specs.Queries.{query_line}
-use Rattle.da_hist.specs.declared.outputs.Outputs.{Outputs}
-use Rattle.da_hist.specs.declared.outputs.Refused.{Refused}
-use Rattle.da_hist.specs.declared.outputs.Refused.TheVariants.{HistoryFull, ConnLimit, NoConn, NothingWaits, NotTaken, NotLate, NoMemory}
+use Rattle.da_play.specs.declared.outputs.Outputs.{Outputs}
+use Rattle.da_play.specs.declared.outputs.Refused.{Refused}
+use Rattle.da_play.specs.declared.outputs.Refused.TheVariants.{HistoryFull, ConnLimit, NoConn, NothingWaits, NotTaken, NotLate, NoMemory}
 
 -- a line that is sent to a connection
 abbrev pub sent_text : ℕ → ℕ × Bytes → Bytes

@@ -3,8 +3,8 @@ use Rattle.std.specs.Prelude.{◌≤◌, ◌<◌, ◌^◌, List, [], ◌∷◌, 
 use Rattle.std.specs.List.{AllByRecursion}
 use Rattle.da_base.specs.Words.{Bytes}
 use Rattle.da_tabline.specs.Lines.{LineCut, line_cut}
-use Rattle.da_hist.specs.declared.input.Entry.{Entry}
-use Rattle.da_hist.specs.Play.{Event}
+use Rattle.da_play.specs.declared.input.Entry.{Entry}
+use Rattle.da_play.specs.Play.{Event}
 use Rattle.da_script.specs.Events.{event_of, event_line, InputIsHeld, IsPlain}
 
 -- a line of a script has at most 16,384 bytes

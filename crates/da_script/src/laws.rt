@@ -2,20 +2,15 @@
 
 ghost use Rattle.std.specs.Prelude.{◌≡◌, ℕ, ◌+◌, ◌++◌, List, [], length, Result, Some};
 ghost use Rattle.da_base.specs.Words.{Bytes};
-ghost use Rattle.da_hist.specs.declared.input.Entry.{Entry};
-ghost use Rattle.da_hist.specs.declared.input.Input.{Input};
-ghost use Rattle.da_hist.specs.declared.outputs.Outputs.{Outputs};
-ghost use Rattle.da_hist.specs.declared.outputs.Refused.{Refused};
-ghost use Rattle.da_hist.specs.declared.settings.Settings.{Settings};
-ghost use Rattle.da_hist.specs.Legal.{IsLegal};
-ghost use Rattle.da_hist.specs.Play.{played};
-ghost use Rattle.da_hist.specs.PlayLaws.{events_of};
+ghost use Rattle.da_play.specs.declared.input.Entry.{Entry};
+ghost use Rattle.da_play.specs.declared.input.Input.{Input};
+ghost use Rattle.da_play.specs.declared.outputs.Outputs.{Outputs};
+ghost use Rattle.da_play.specs.declared.outputs.Refused.{Refused};
+ghost use Rattle.da_play.specs.Play.{events_of};
 ghost use Rattle.da_script.specs.Events.{event_of};
 ghost use Rattle.da_script.specs.EventSpelling.{SpellsEvent};
 ghost use Rattle.da_script.specs.Replies.{replies_text};
 ghost use Rattle.da_script.specs.Scripts.{AreScripted, events, script};
-
-use da_hist::laws::legal_is_played;
 
 /// A line is read as an event exactly where it spells it: where it is the line that is printed for it, but that an answer
 /// may be spelled with other escapes.
@@ -34,13 +29,6 @@ pub fn a_line_spells_one_event()
 pub fn a_printed_history_is_read_again()
     ensures { (h : List Entry) → AreScripted h → events (script h) ≡ events_of h }
 {}
-
-/// A legal history is the one that its own script plays.
-pub fn a_printed_history_is_played_again()
-    ensures { (settings : Settings) (h : List Entry) → IsLegal settings h → AreScripted h → played settings [] (events (script h)) ≡ h }
-{
-    legal_is_played();
-}
 
 /// Replies are printed one after another, each under the number of its event.
 pub fn replies_are_printed_in_order()

@@ -11,7 +11,7 @@ mod replies;
 
 pub use events::read_event;
 pub use laws::{
-    a_line_spells_one_event, a_printed_history_is_played_again, a_printed_history_is_read_again,
+    a_line_spells_one_event, a_printed_history_is_read_again,
     an_event_is_read_as_it_spells, replies_are_printed_in_order,
 };
 pub use printing::print_event;

@@ -6,7 +6,7 @@ ghost use Rattle.da_script.specs.Replies.{closed_text, hit_text, outputs_text, r
 
 use crate::printing::push_number;
 use da_fields::{Query, Text};
-use da_hist::{Outputs, Refused};
+use da_play::{Outputs, Refused};
 use std::alloc::{AllocError, Global};
 
 /// The printed reply to the event of this number, each line with its LF: the due replies, the hits, the query that is

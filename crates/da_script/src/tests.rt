@@ -1,6 +1,7 @@
 use super::*;
 use da_fields::{Query, QueryKind, Text};
-use da_hist::{Numbers, Outputs, Refused, Sent};
+use da_play::{Outputs, Refused, Sent};
+use da_tables::Numbers;
 use std::alloc::{AllocError, Global};
 use std::test::Fail;
 

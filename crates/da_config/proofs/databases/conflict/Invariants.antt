@@ -1,5 +1,5 @@
 use Rattle.std.proofs.Common.{◌≡◌, drop}
-use Rattle.da_hist.specs.SettingsRanges.{first_conflict}
+use Rattle.da_settings.specs.SettingsRanges.{first_conflict}
 use Rattle.da_config.proofs.databases.conflict.Given as goal
 
 abbrev pub invariant-loop-db : goal.invariant-loop-db

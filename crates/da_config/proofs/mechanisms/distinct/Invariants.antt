@@ -1,5 +1,5 @@
 use Rattle.std.proofs.Common.{◌≡◌, length}
-use Rattle.da_hist.specs.SettingsRanges.{are_distinct}
+use Rattle.da_settings.specs.SettingsRanges.{are_distinct}
 use Rattle.da_config.proofs.mechanisms.distinct.Given as goal
 
 abbrev pub invariant-loop-first : goal.invariant-loop-first

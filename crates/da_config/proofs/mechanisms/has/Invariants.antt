@@ -1,5 +1,5 @@
 use Rattle.std.proofs.Common.{◌≡◌, drop}
-use Rattle.da_hist.specs.SettingsRanges.{has_mechanism}
+use Rattle.da_settings.specs.SettingsRanges.{has_mechanism}
 use Rattle.da_config.proofs.mechanisms.has.Given as goal
 
 abbrev pub invariant-loop-other : goal.invariant-loop-other

@@ -1,5 +1,5 @@
-use Rattle.std.proofs.Common.{◌≡◌, ◌∙◌, ◌<◌, sym, ap, arith, length, reverse}
-use Rattle.da_hist.proofs.FewRows.{all_rows_fit}
+use Rattle.std.proofs.Common.{arith}
+use Rattle.da_play.proofs.FewRows.{all_rows_fit}
 use Rattle.da_hist.proofs.plain.next_of.Goals as goal
 
 pub input_refusal-requires-clause-connections : goal.input_refusal-requires-clause-connections

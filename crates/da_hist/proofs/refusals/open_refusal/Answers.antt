@@ -1,5 +1,5 @@
 use Rattle.std.proofs.Common.{arith}
-use Rattle.da_hist.proofs.RowChanges.{count_few}
+use Rattle.da_tables.proofs.RowChanges.{count_few}
 use Rattle.da_hist.proofs.refusals.open_refusal.Goals as goal
 
 pub overflow_cast-count : goal.overflow_cast-count

@@ -1,6 +1,6 @@
 use Rattle.std.proofs.Common.{◌≡◌, ◌-◌, take, reverse}
-use Rattle.da_hist.specs.History.{tables_of}
-use Rattle.da_hist.specs.Legal.{size}
+use Rattle.da_play.specs.History.{tables_of}
+use Rattle.da_play.specs.Legal.{size}
 use Rattle.da_hist.proofs.replay.replay.Given as goal
 
 abbrev pub invariant-loop-entry : goal.invariant-loop-entry

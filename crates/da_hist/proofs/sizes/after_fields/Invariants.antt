@@ -1,5 +1,5 @@
 use Rattle.std.proofs.Common.{◌≡◌, ◌-◌, take}
-use Rattle.da_hist.specs.Legal.{pairs_size}
+use Rattle.da_play.specs.Legal.{pairs_size}
 use Rattle.da_hist.proofs.sizes.after_fields.Given as goal
 
 abbrev pub invariant-loop-pair : goal.invariant-loop-pair

@@ -1,6 +1,6 @@
 use Rattle.std.proofs.Common.{◌≡◌, ℕ, suc, ◌+◌, List, [], ◌∷◌, ◌++◌, length, Result, sym, ap, ◌∙◌, append_assoc, arith}
-use Rattle.da_hist.specs.declared.outputs.Outputs.{Outputs}
-use Rattle.da_hist.specs.declared.outputs.Refused.{Refused}
+use Rattle.da_play.specs.declared.outputs.Outputs.{Outputs}
+use Rattle.da_play.specs.declared.outputs.Refused.{Refused}
 use Rattle.da_script.specs.Replies.{reply_text, replies_text}
 use Rattle.da_script.proofs.laws.replies_are_printed_in_order.Goals as goal
 

@@ -1,0 +1,2 @@
+pub mod AnsweredRows
+pub mod HitsInTurn

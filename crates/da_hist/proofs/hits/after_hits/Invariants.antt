@@ -1,6 +1,0 @@
-use Rattle.std.proofs.Common.{◌≡◌, drop}
-use Rattle.da_hist.specs.Hits as words
-use Rattle.da_hist.proofs.hits.after_hits.Given as goal
-
-abbrev pub invariant-loop-number : goal.invariant-loop-number
-invariant-loop-number l = words.after_hits l.settings l.continued l.tables (drop l.number-index l.hits) ≡ words.after_hits l.fn.settings l.fn.continued l.fn.tables l.fn.hits

@@ -1,5 +1,0 @@
-use Rattle.da_hist.proofs.ComparisonLaw.{comparisons_are_of_passwords}
-use Rattle.da_hist.proofs.laws.comparisons_are_of_passwords.Goals as goal
-
-pub returns : goal.returns
-returns c = comparisons_are_of_passwords

@@ -1,5 +1,0 @@
-use Rattle.da_hist.proofs.RepliedOnce.{replies_at_most_once}
-use Rattle.da_hist.proofs.laws.replies_at_most_once.Goals as goal
-
-pub returns : goal.returns
-returns c = replies_at_most_once

@@ -1,7 +1,0 @@
-use Rattle.std.proofs.Common.{◌≡◌, map, take, drop, ◌++◌}
-use Rattle.da_hist.specs.Tables.{as_cancelled_of}
-use Rattle.da_hist.proofs.tables.cancel_all_of.Given as goal
-
--- the requests so far are cancelled, and the others are as they were
-abbrev pub invariant-loop-request : goal.invariant-loop-request
-invariant-loop-request l = l.requests ≡ map (as_cancelled_of l.conn) (take l.request-index l.fn.requests) ++ drop l.request-index l.fn.requests

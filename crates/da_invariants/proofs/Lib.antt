@@ -1,0 +1,7 @@
+pub mod AsksNew
+pub mod Distinct
+pub mod Keys
+pub mod KeysLaw
+pub mod KnownHits
+pub mod OpenQueries
+pub mod Standing

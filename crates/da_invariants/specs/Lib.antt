@@ -1,0 +1,3 @@
+pub mod KeyLaws
+pub mod QueryLaws
+pub mod StandingLaws

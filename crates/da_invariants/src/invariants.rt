@@ -1,0 +1,35 @@
+// What holds of the tables after each history: each law is a contract, and its function does nothing.
+
+ghost use Rattle.da_invariants.specs.KeyLaws.{KeysFit};
+ghost use Rattle.da_invariants.specs.QueryLaws.{OpenQueriesAreAsked, AnswersAreDistinct};
+ghost use Rattle.da_invariants.specs.StandingLaws.{WhatIsDoneStands, UsedStaysUsed, DecisionsStand};
+
+/// What is ended, cancelled, decided, replied, granted, taken or answered stays so, whatever comes later.
+pub fn what_is_done_stands()
+    ensures { WhatIsDoneStands }
+{}
+
+/// A login that served a request of a master is used for ever.
+pub fn used_stays_used()
+    ensures { UsedStaysUsed }
+{}
+
+/// The decision of a request that is decided doesn't change.
+pub fn decisions_stand()
+    ensures { DecisionsStand }
+{}
+
+/// A query without an answer is what its request asks, and that request is undecided, or was cancelled before.
+pub fn open_queries_are_asked()
+    ensures { OpenQueriesAreAsked }
+{}
+
+/// The keys fit the cache, no key is there twice, and each has an answer that may be repeated for some time.
+pub fn keys_fit()
+    ensures { KeysFit }
+{}
+
+/// In a legal history the answers of a request are those of distinct databases.
+pub fn answers_are_distinct()
+    ensures { AnswersAreDistinct }
+{}

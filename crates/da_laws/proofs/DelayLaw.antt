@@ -1,0 +1,113 @@
+-- How long final replies are held back, from the laws on what is due.
+use Rattle.std.proofs.Common.{◌≡◌, ◌⊎◌, inl, inr, refl, sym, ◌∙◌, ap, ap₂, subst, Option, Some, None, List, [], ◌∷◌, ℕ, zero, suc, ◌≤◌, Bool, true, false, cond, not, ◌&&◌, ◌||◌, nat_le, option_map, is_some, true≢false, arith}
+use Rattle.std.specs.List.{list_any}
+use Rattle.std.proofs.lemmas.Bool.Decides.{nat_tests}
+use Rattle.std.proofs.lemmas.Option.{none-some, same_Some}
+use Rattle.da_base.specs.Words.{Bytes, later, nth, passes_option}
+use Rattle.da_settings.specs.declared.settings.Settings.{Settings}
+use Rattle.da_request.specs.declared.stages.Decision.TheVariants.{Failure}
+use Rattle.da_request.specs.declared.request.Request.{Request}
+use Rattle.da_request.specs.Requests.{decision, has_nodelay, is_failure, reply_delay, due_moment, is_held, is_due}
+use Rattle.da_laws.specs.DelayLaws.{FailuresWait, NoneWaitsLonger, OthersAreToldAtOnce}
+use Rattle.da_tables.proofs.Cases.{by_test}
+use Rattle.da_laws.proofs.DueLaw.{nothing_due_is_left}
+use Rattle.da_laws.proofs.ReplyDue.{replies_are_due}
+
+at_most : (m n : ℕ) → nat_le m n ≡ true → m ≤ n
+at_most m n e = grind (arith, nat_tests, e)
+
+is_at_most : (m n : ℕ) → m ≤ n → nat_le m n ≡ true
+is_at_most m n h = grind (arith, nat_tests, h)
+
+-- ---- the delay of a request
+
+failure_delays : (settings : Settings) (r : Request) (user : Option Bytes) (authz temp disabled : Bool) (reason : Option Bytes) →
+    decision settings r ≡ Some (Failure user authz temp disabled reason) → has_nodelay r.answers ≡ false → reply_delay settings r ≡ settings.failure_delay
+unfolding reply_delay
+failure_delays settings r user authz temp disabled reason failed delays =
+    ap (λ d. cond (passes_option is_failure d && not (has_nodelay r.answers)) settings.failure_delay 0) failed
+    ∙ ap (λ b. cond (not b) settings.failure_delay 0) delays
+
+within_delay : (settings : Settings) (r : Request) → reply_delay settings r ≤ settings.failure_delay
+unfolding reply_delay
+within_delay settings r =
+    by_test (λ (span : ℕ). span ≤ settings.failure_delay) (passes_option is_failure (decision settings r) && not (has_nodelay r.answers)) settings.failure_delay 0
+    (λ e. omega (arith)) (λ e. omega (arith))
+
+others_rush : (settings : Settings) (r : Request) → (passes_option is_failure (decision settings r) ≡ false) ⊎ (has_nodelay r.answers ≡ true) → reply_delay settings r ≡ 0
+unfolding reply_delay
+others_rush settings r (inl e) = ap (λ b. cond (b && not (has_nodelay r.answers)) settings.failure_delay 0) e
+others_rush settings r (inr e) =
+    ap (λ b. cond (passes_option is_failure (decision settings r) && not b) settings.failure_delay 0) e
+    ∙ ap (λ b. cond b settings.failure_delay 0) (never (passes_option is_failure (decision settings r)))
+  where
+    never : (b : Bool) → (b && false) ≡ false
+    never true = refl
+    never false = refl
+
+-- ---- a reply in time
+
+decided_in_time : (moment span : ℕ) (o : Option ℕ) → passes_option (λ m. nat_le m moment) (option_map (λ m. later m span) o) ≡ true →
+    (decided : ℕ) × (o ≡ Some decided) × (later decided span ≤ moment)
+decided_in_time moment span None e = absurd (true≢false (sym e))
+decided_in_time moment span (Some decided) e = (decided, refl, at_most (later decided span) moment e)
+
+pub failures_wait : FailuresWait
+failures_wait settings e g n r user authz temp disabled reason reported here failed delays =
+    let due = replies_are_due settings e g n reported in
+    let same : due.0 ≡ r = same_Some due.0 r (sym due.1 ∙ here) in
+    let in_time = decided_in_time e.moment (reply_delay settings r) r.decided
+    (subst (λ (s : Request). passes_option (λ m. nat_le m e.moment) (due_moment settings s) ≡ true) same due.4) in
+    (in_time.0, in_time.1, subst (λ span. later in_time.0 span ≤ e.moment) (failure_delays settings r user authz temp disabled reason failed delays) in_time.2)
+
+-- ---- nothing is left
+
+none_at : (comparison : Request → Bool) (rs : List Request) (n : ℕ) (r : Request) → list_any comparison rs ≡ false → nth rs n ≡ Some r → comparison r ≡ false
+none_at comparison rs zero r e here = absurd (none-some r here)
+none_at comparison [] (suc n) r e here = absurd (none-some r here)
+none_at comparison (s ∷ rs) (suc zero) r e here = subst (λ x. comparison x ≡ false) (same_Some s r here) (first (comparison s) (list_any comparison rs) e)
+  where
+    first : (a b : Bool) → (a || b) ≡ false → a ≡ false
+    first true b e = absurd (true≢false e)
+    first false b e = refl
+none_at comparison (s ∷ rs) (suc (suc n)) r e here = none_at comparison rs (suc n) r (rest (comparison s) (list_any comparison rs) e) here
+  where
+    rest : (a b : Bool) → (a || b) ≡ false → b ≡ false
+    rest true b e = absurd (true≢false e)
+    rest false b e = e
+
+-- a request that isn't due, though its moment has come, has its reply
+was_told : (settings : Settings) (moment decided : ℕ) (r : Request) → is_due settings moment r ≡ false → r.decided ≡ Some decided → r.is_cancelled ≡ false →
+    later decided (reply_delay settings r) ≤ moment → is_some r.replied ≡ true
+unfolding is_due
+was_told settings moment decided r rests at stays in_time = go (is_some r.replied) refl
+  where
+    go : (b : Bool) → is_some r.replied ≡ b → is_some r.replied ≡ true
+    go true e = e
+    go false e = absurd (true≢false (sym held_and_due ∙ rests))
+      where
+        held : is_held r ≡ true
+        held =
+            ap (λ o. is_some o && not r.is_cancelled && not (is_some r.replied)) at
+            ∙ ap₂ (λ x y. not x && not y) stays e
+
+        held_and_due : (is_held r && passes_option (λ m. nat_le m moment) (due_moment settings r)) ≡ true
+        held_and_due =
+            ap₂ (λ x y. x && y) held
+            (ap (λ o. passes_option (λ m. nat_le m moment) (option_map (λ m. later m (reply_delay settings r)) o)) at ∙ is_at_most (later decided (reply_delay settings r)) moment in_time)
+
+later_within : (decided a b moment : ℕ) → a ≤ b → later decided b ≤ moment → later decided a ≤ moment
+later_within decided a b moment h k = omega (arith, h, k)
+
+later_none : (decided moment : ℕ) → decided ≤ moment → later decided 0 ≤ moment
+later_none decided moment h = omega (arith, h)
+
+pub none_waits_longer : NoneWaitsLonger
+none_waits_longer settings e g n decided r here at stays in_time =
+    was_told settings e.moment decided r (none_at _ _ n r (nothing_due_is_left settings e g) here) at stays
+    (later_within decided (reply_delay settings r) settings.failure_delay e.moment (within_delay settings r) in_time)
+
+pub others_are_told_at_once : OthersAreToldAtOnce
+others_are_told_at_once settings e g n decided r here at stays rushes by =
+    was_told settings e.moment decided r (none_at _ _ n r (nothing_due_is_left settings e g) here) at stays
+    (subst (λ span. later decided span ≤ e.moment) (sym (others_rush settings r rushes)) (later_none decided e.moment by))

@@ -1,0 +1,184 @@
+-- What is decided by its stage is noted as decided.
+use Rattle.std.proofs.Common.{◌≡◌, ◌⊎◌, inl, inr, refl, sym, ◌∙◌, ap, subst, Option, Some, None, List, [], ◌∷◌, ◌++◌, ℕ, suc, Bool, true, false, length, is_some, not, ◌&&◌, true≢false}
+use Rattle.std.proofs.lemmas.Option.{none-some, same_Some}
+use Rattle.da_tables.proofs.Cases.{by_test, and_first, and_second, not_true}
+use Rattle.da_play.proofs.EntryParts.{HeardParts, MovedParts, an_entry_gives}
+use Rattle.da_invariants.proofs.OpenQueries.{nowhere}
+use Rattle.da_tables.proofs.Rows.{of_changed, of_appended, of_mapped, nth-unchanged, same_or_not}
+use Rattle.da_invariants.proofs.Standing.{same_stage}
+use Rattle.da_base.specs.Words.{nth, changed_nth, passes_option}
+use Rattle.da_fields.specs.declared.answer.Answer.{Answer}
+use Rattle.da_play.specs.History.{tables_of}
+use Rattle.da_tables.specs.Tables.{with_due_replied}
+use Rattle.da_request.specs.Requests.{with_decision, replied_if_due}
+use Rattle.da_request.specs.Requests.{new_request, with_text}
+use Rattle.da_request.specs.Requests.{with_answer, with_late_answer}
+use Rattle.da_laws.specs.ReplyLaws.{DecisionsAreNoted}
+use Rattle.da_request.specs.Requests.{is_undecided, is_pending, is_due, is_held, request_stage, decision, decision_in}
+use Rattle.da_tables.specs.Tables.{with_end}
+use Rattle.da_request.specs.Requests.{cancelled, as_cancelled_of, is_of}
+use Rattle.da_play.specs.declared.input.Entry.{Entry}
+use Rattle.da_play.specs.declared.input.Input.{Input}
+use Rattle.da_settings.specs.declared.settings.Settings.{Settings}
+use Rattle.da_request.specs.declared.stages.Decision.{Decision}
+use Rattle.da_request.specs.declared.request.Request.{Request}
+use Rattle.da_request.specs.declared.stages.Stage.{Stage}
+use Rattle.da_request.specs.declared.stages.Stage.TheVariants.{Decided}
+use Rattle.da_tables.specs.declared.tables.Tables.{Tables}
+
+module _ (settings : Settings) where
+  -- decided by its stage, and so noted unless it is cancelled; and replied only when it is noted
+  pub record IsNoted (r : Request) : Type 0 where
+    pub noted : is_some (decision settings r) ≡ true → r.is_cancelled ≡ false → is_some r.decided ≡ true
+    pub replied : is_some r.replied ≡ true → is_some r.decided ≡ true
+    pub by_stage : is_some r.decided ≡ true → is_some (decision settings r) ≡ true
+
+  -- each request is noted but for this one
+  abbrev pub AllNotedBut : Option ℕ → List Request → Type 0
+  AllNotedBut m rs = (n : ℕ) (r : Request) → nth rs n ≡ Some r → (m ≡ Some n → ⊥) → IsNoted r
+
+  abbrev pub AllNoted : List Request → Type 0
+  AllNoted rs = (n : ℕ) (r : Request) → nth rs n ≡ Some r → IsNoted r
+
+  all_but_none : (rs : List Request) → AllNoted rs → AllNotedBut None rs
+  all_but_none rs p n r e h = p n r e
+
+  all_of_none : (rs : List Request) → AllNotedBut None rs → AllNoted rs
+  all_of_none rs p n r e = p n r e (λ d. none-some n d)
+
+  changed_noted : (f : Request → Request) (rs : List Request) (m : ℕ) → ((r : Request) → nth rs m ≡ Some r → IsNoted (f r)) → AllNotedBut (Some m) rs → AllNoted (changed_nth f rs m)
+  changed_noted f rs m h p n r e = go (of_changed f rs m n r e)
+    where
+      go : ((n ≡ m) × (s : Request) × (nth rs m ≡ Some s) × (r ≡ f s)) ⊎ ((n ≡ m → ⊥) × (nth rs n ≡ Some r)) → IsNoted r
+      go (inl (d, s, is, w)) = subst IsNoted (sym w) (h s is)
+      go (inr (d, is)) = p n r is (λ x. d (sym (same_Some m n x)))
+
+  -- whatever the request is that moves
+  changed_but : (f : Request → Request) (rs : List Request) (m : ℕ) → AllNotedBut (Some m) rs → AllNotedBut (Some m) (changed_nth f rs m)
+  changed_but f rs m p n r e h = p n r (sym (nth-unchanged f rs m n (λ d. h (ap (λ (k : ℕ). Some k) (sym d)))) ∙ e) h
+
+  weaker_but : (m : ℕ) (rs : List Request) → AllNoted rs → AllNotedBut (Some m) rs
+  weaker_but m rs p n r e h = p n r e
+
+  same_decision : (r s : Request) → request_stage settings s ≡ request_stage settings r → decision settings s ≡ decision settings r
+  unfolding decision
+  same_decision r s e = ap decision_in e
+
+  cancelled_noted : (r : Request) → IsNoted r → IsNoted (cancelled r)
+  cancelled_noted r p = record { noted = λ d e. absurd (true≢false e); replied = λ e. p.replied e; by_stage = λ e. ap is_some (same_decision r (cancelled r) (same_stage settings r (cancelled r) refl refl refl refl)) ∙ p.by_stage e }
+
+  cancelled_of_noted : (conn : ℕ) (r : Request) → IsNoted r → IsNoted (as_cancelled_of conn r)
+  cancelled_of_noted conn r p = by_test IsNoted (is_of conn r) (cancelled r) r (λ e. cancelled_noted r p) (λ e. p)
+
+  -- a late answer goes to a request that isn't undecided
+  late_noted : (db : ℕ) (answer : Answer) (r : Request) → is_undecided r ≡ false → IsNoted r → IsNoted (with_late_answer db answer r)
+  late_noted db answer r u p = by_test IsNoted (is_some r.decided) r (with_answer db answer r) (λ e. p)
+      (λ e. record { noted = λ d c. absurd (undecided e c); replied = λ x. p.replied x; by_stage = λ x. absurd (true≢false (sym x ∙ e)) })
+    where
+      unreplied : is_some r.decided ≡ false → (b : Bool) → is_some r.replied ≡ b → b ≡ false
+      unreplied e true d = absurd (true≢false (sym (p.replied d) ∙ e))
+      unreplied e false d = refl
+
+      undecided : is_some r.decided ≡ false → r.is_cancelled ≡ false → ⊥
+      undecided e c = true≢false (sym (ap (λ (b : Bool). not b && not (is_some r.replied) && not (is_some r.decided)) c
+          ∙ ap (λ (b : Bool). not b && not (is_some r.decided)) (unreplied e (is_some r.replied) refl) ∙ ap not e) ∙ u)
+
+  due_noted : (moment : ℕ) (r : Request) → IsNoted r → IsNoted (replied_if_due settings moment r)
+  unfolding is_due
+  due_noted moment r p = by_test IsNoted (is_due settings moment r) (record r { replied = Some moment }) r
+      (λ e. let d : is_some r.decided ≡ true = and_first (is_some r.decided) _ (and_first (is_some r.decided && not r.is_cancelled) _ (and_first (is_held r) _ e)) in
+      record { noted = λ x c. d; replied = λ x. d; by_stage = λ x. ap is_some (same_decision r (record r { replied = Some moment }) (same_stage settings r (record r { replied = Some moment }) refl refl refl refl)) ∙ p.by_stage x })
+      (λ e. p)
+
+  decision_noted : (moment : ℕ) (r : Request) → is_some (decision settings r) ≡ true → IsNoted (with_decision settings moment r)
+  decision_noted moment r d = by_test IsNoted (is_due settings moment (record r { decided = Some moment })) (record r { decided = Some moment; replied = Some moment }) (record r { decided = Some moment })
+      (λ e. record { noted = λ x c. refl; replied = λ x. refl; by_stage = λ x. ap is_some (same_decision r (record r { decided = Some moment; replied = Some moment }) (same_stage settings r _ refl refl refl refl)) ∙ d })
+      (λ e. record { noted = λ x c. refl; replied = λ x. refl; by_stage = λ x. ap is_some (same_decision r (record r { decided = Some moment }) (same_stage settings r _ refl refl refl refl)) ∙ d })
+
+  decided_by : (r : Request) {d : Decision} → request_stage settings r ≡ Decided d → is_some (decision settings r) ≡ true
+  unfolding decision
+  decided_by r e = ap (λ (s : Stage). is_some (decision_in s)) e
+
+  -- who awaits a message or asks isn't decided
+  open_noted : (r : Request) → is_undecided r ≡ true → decision_in (request_stage settings r) ≡ None → IsNoted r
+  unfolding decision
+  open_noted r u e = record {
+    noted = λ d c. absurd (true≢false (sym d ∙ ap is_some e));
+    replied = λ d. absurd (true≢false (sym d ∙ not_true (is_some r.replied) (and_second (not r.is_cancelled) _ (and_first (is_pending r) _ u))));
+    by_stage = λ d. absurd (true≢false (sym d ∙ not_true (is_some r.decided) (and_second (is_pending r) _ u)));
+  }
+
+  settled_noted : (rs : List Request) (m : ℕ) (r : Request) → nth rs m ≡ Some r → IsNoted r → AllNotedBut (Some m) rs → AllNoted rs
+  settled_noted rs m r is p all n s e = go (same_or_not n m)
+    where
+      go : (n ≡ m) ⊎ (n ≡ m → ⊥) → IsNoted s
+      go (inl d) = subst IsNoted (same_Some r s (sym is ∙ ap (nth rs) (sym d) ∙ e)) p
+      go (inr d) = all n s e (λ x. d (sym (same_Some m n x)))
+
+  module _ (moment : ℕ) (before : Tables) (entered : Input) (hits : List ℕ) where
+    abbrev pub noted_but : Tables → Option ℕ → List ℕ → Type 0
+    noted_but tables m done = AllNotedBut m tables.requests
+
+    abbrev pub all_noted : Tables → Option ℕ → Type 0
+    all_noted tables m = AllNoted tables.requests
+
+    end_noted : (conn : ℕ) → AllNotedBut None before.requests → AllNotedBut None (with_end conn before).requests
+    unfolding with_end
+    end_noted conn p n r e h =
+        let was : (s : Request) × (nth before.requests n ≡ Some s) × (r ≡ as_cancelled_of conn s) = of_mapped (as_cancelled_of conn) before.requests n r e in
+        subst IsNoted (sym was.2) (cancelled_of_noted conn was.0 (p n was.0 was.1 h))
+
+    made_noted : (r : Request) → AllNotedBut None before.requests → AllNotedBut (Some (suc (length before.requests))) (before.requests ++ r ∷ [])
+    made_noted r p n s e h = go (of_appended before.requests r s n e)
+      where
+        go : ((n ≡ suc (length before.requests)) × (s ≡ r)) ⊎ (nth before.requests n ≡ Some s) → IsNoted s
+        go (inl (at, same)) = absurd (h (ap (λ (k : ℕ). Some k) (sym at)))
+        go (inr is) = p n s is (λ d. none-some n d)
+
+    late_all : (n db : ℕ) (answer : Answer) → passes_option is_undecided (nth before.requests n) ≡ false → AllNotedBut None before.requests →
+        AllNotedBut None (changed_nth (with_late_answer db answer) before.requests n)
+    late_all n db answer u p = all_but_none _ (changed_noted (with_late_answer db answer) before.requests n
+        (λ r e. late_noted db answer r (sym (ap (passes_option is_undecided) e) ∙ u) (p n r e (λ d. none-some n d))) (weaker_but n before.requests (all_of_none before.requests p)))
+
+    pub heard_noted : HeardParts settings moment before entered (λ tables m. AllNotedBut m tables.requests)
+    heard_noted = record {
+      opens = λ kind random l p. p;
+      tells = λ conn change h p. p;
+      ends = λ conn e p. end_noted conn p;
+      cancels = λ n e p. all_but_none _ (changed_noted cancelled before.requests n (λ r e. cancelled_noted r (p n r e (λ d. none-some n d))) (weaker_but n before.requests (all_of_none before.requests p)));
+      texts = λ conn id random text m r is w p. changed_but (with_text text) before.requests _ (weaker_but _ before.requests (all_of_none before.requests p));
+      makes = λ conn id random body m p. made_noted (new_request moment conn id random body) p;
+      takes = λ l p. p;
+      answers = λ query given a g is run u p. changed_but (with_answer a.question.db _) before.requests a.request (weaker_but a.request before.requests (all_of_none before.requests p));
+      lates = λ query given a g is run u p. late_all a.request a.question.db _ u p;
+    }
+
+    pub moved_noted : MovedParts settings moment before entered hits noted_but all_noted
+    moved_noted = record {
+      hit = λ tables continued number done rest a p is e w u q. changed_but (with_answer a.question.db p.0) tables.requests continued q;
+      misses = λ tables continued number done rest e w q. q;
+      rests = λ tables q. all_of_none tables.requests q;
+      awaits = λ tables n r text is u e q. settled_noted tables.requests n r is (open_noted r u (ap decision_in e)) q;
+      asks = λ tables n r question is u e q. settled_noted tables.requests n r is (open_noted r u (ap decision_in e)) q;
+      decides = λ tables n r d is u e q. changed_noted (with_decision settings moment) tables.requests n (λ s x. decision_noted moment s (decided_by s (subst (λ (y : Request). request_stage settings y ≡ Decided d) (same_Some r s (sym is ∙ x)) e))) q;
+      kept = λ tables m query given a l run is k q. q;
+    }
+
+  due_all : (moment : ℕ) (tables : Tables) → AllNoted tables.requests → AllNoted (with_due_replied settings moment tables).requests
+  unfolding with_due_replied
+  due_all moment tables p n r e =
+      let was : (s : Request) × (nth tables.requests n ≡ Some s) × (r ≡ replied_if_due settings moment s) = of_mapped (replied_if_due settings moment) tables.requests n r e in
+      subst IsNoted (sym was.2) (due_noted moment was.0 (p n was.0 was.1))
+
+  start_noted : AllNoted []
+  start_noted n r e = absurd (nowhere n r e)
+
+  pub history_noted : (h : List Entry) → AllNoted (tables_of settings h).requests
+  history_noted [] = start_noted
+  history_noted (e ∷ g) =
+      let before : Tables = with_due_replied settings e.moment (tables_of settings g) in
+      an_entry_gives settings (tables_of settings g) e (noted_but e.moment before e.input e.hits) (all_noted e.moment before e.input e.hits)
+      (heard_noted e.moment before e.input e.hits) (moved_noted e.moment before e.input e.hits) (all_but_none before.requests (due_all e.moment (tables_of settings g) (history_noted g)))
+
+pub decisions_are_noted : DecisionsAreNoted
+decisions_are_noted settings h n r e = (history_noted settings h n r e).noted

@@ -1,0 +1,9 @@
+pub mod ComparisonLaws
+pub mod DelayLaws
+pub mod EndLaws
+pub mod GrantLaws
+pub mod HitLaws
+pub mod PlayLaws
+pub mod ReplyLaws
+pub mod StageLaws
+pub mod SuccessLaws

@@ -1,0 +1,2 @@
+pub mod ListReadings
+pub mod RowReadings

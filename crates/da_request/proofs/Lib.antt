@@ -1,0 +1,2 @@
+pub mod DecodedMessages
+pub mod ValidDatabases

@@ -1,0 +1,10 @@
+pub mod RunWords
+pub mod RunsOfConnections
+pub mod RunsOfDatabases
+pub mod RunsOfDelays
+pub mod RunsOfHandovers
+pub mod RunsOfLateAnswers
+pub mod RunsOfLogins
+pub mod RunsOfMasterLogins
+pub mod RunsOfScram
+pub mod RunsOfTheCache

@@ -1,0 +1,98 @@
+// Worked runs of the server, computed from the definitions: each clause plays events and says what is replied.
+
+ghost use Rattle.std.specs.Prelude.{◌≡◌, [], Some, None, codes};
+ghost use Rattle.da_play.specs.Play.{play};
+ghost use Rattle.da_runs.specs.RunWords.{line, answer, plain_login, alice, alice_with_no};
+ghost use Rattle.da_runs.specs.RunsOfConnections.{hasty_clients, hasty_clients_replies, used_numbers, used_numbers_replies, long_line, long_line_replies, one_entry, two_entries, two_entries_replies, one_connection, two_connections, two_connections_replies, early_worker, early_worker_replies};
+ghost use Rattle.da_runs.specs.RunsOfDatabases.{two_databases, failed_then_unknown, failed_then_unknown_replies, denying_first, denied, denied_replies, denial_failed, denial_failed_replies, going_on_with_success, right_then_refused, right_then_refused_replies};
+ghost use Rattle.da_runs.specs.RunsOfDelays.{two_seconds, told_in_time, told_in_time_replies, cancelled_in_time, cancelled_in_time_replies, cancelled_too_late, cancelled_too_late_replies, not_delayed, not_delayed_replies, told_together, told_together_replies};
+ghost use Rattle.da_runs.specs.RunsOfHandovers.{with_users, handed_over, handed_over_replies, asked_too_late, asked_too_late_replies, cancelled_login, ended_client, nothing_to_hand_over_replies};
+ghost use Rattle.da_runs.specs.RunsOfLateAnswers.{given_up, given_up_replies, cancelled_before, cancelled_before_replies};
+ghost use Rattle.da_runs.specs.RunsOfLogins.{right_login, right_login_replies, login_settings, name_and_password, name_and_password_replies};
+ghost use Rattle.da_runs.specs.RunsOfMasterLogins.{with_masters, bob_is_unknown, bob_is_unknown_replies, bob_is_there, bob_is_there_replies};
+ghost use Rattle.da_runs.specs.RunsOfScram.{scram_settings, keys_told, keys_told_replies, digest_told, digest_told_replies};
+ghost use Rattle.da_runs.specs.RunsOfTheCache.{one_second, told_again, told_again_replies, asked_once, told_once, told_twice, her_password, compared, stored_pw};
+ghost use Rattle.da_settings.specs.DefaultSettings.{default_settings};
+
+/// A login by PLAIN whose password is right is told so at once; one by LOGIN is asked for a name, then for a password.
+pub fn logins_are_answered()
+    ensures right { play (default_settings 0) [] right_login ≡ right_login_replies }
+    ensures login { play login_settings [] name_and_password ≡ name_and_password_replies }
+{}
+
+/// A client is closed that speaks another major version, asks before it told its process number, tells that of another
+/// open client, uses a request's number again, or sends a line that is too long.
+pub fn unruly_clients_are_closed()
+    ensures hasty { play (default_settings 0) [] hasty_clients ≡ hasty_clients_replies }
+    ensures used { play (default_settings 0) [] used_numbers ≡ used_numbers_replies }
+    ensures long { play (default_settings 0) [] long_line ≡ long_line_replies }
+{}
+
+/// A full history takes no entry, no connection is opened beyond the limit, and a worker gets no query where none waits.
+pub fn limits_are_kept()
+    ensures history { play one_entry [] two_entries ≡ two_entries_replies }
+    ensures connections { play one_connection [] two_connections ≡ two_connections_replies }
+    ensures queries { play (default_settings 0) [] early_worker ≡ early_worker_replies }
+{}
+
+/// A database that fails makes a failure for a time only, one that denies ends the login, and after a success that goes on
+/// the next database changes nothing by failing.
+pub fn databases_are_asked_in_turn()
+    ensures failed { play two_databases [] failed_then_unknown ≡ failed_then_unknown_replies }
+    ensures denied { play denying_first [] denied ≡ denied_replies }
+    ensures denial_failed { play denying_first [] denial_failed ≡ denial_failed_replies }
+    ensures goes_on { play going_on_with_success [] right_then_refused ≡ right_then_refused_replies }
+{}
+
+/// A master whose own password is right logs in as a user, whatever that user's password is, and fails where there is no
+/// such user.
+pub fn masters_log_in_for_users()
+    ensures unknown { play with_masters [] bob_is_unknown ≡ bob_is_unknown_replies }
+    ensures there { play with_masters [] bob_is_there ≡ bob_is_there_replies }
+{}
+
+/// An answer is used again within its life and no longer, while its key is in the cache, and not for a password that is
+/// wrong after one that was right.
+pub fn answers_are_used_again()
+    ensures { play one_second [] told_again ≡ told_again_replies }
+{}
+
+/// What is compared at an entry is the stored password of the answer that it records, or of the known one within its life,
+/// even where that one may not be used again.
+pub fn known_answers_are_compared()
+    ensures recorded { compared asked_once (answer 20 1 her_password) ≡ Some (stored_pw, codes "pw") }
+    ensures used_again { compared told_once (line 1020 1 (plain_login 2 alice)) ≡ Some (stored_pw, codes "pw") }
+    ensures past_its_life { compared told_once (line 1021 1 (plain_login 2 alice)) ≡ None }
+    ensures asked_anew { compared told_twice (line 1022 1 (plain_login 4 alice_with_no)) ≡ Some (stored_pw, codes "no") }
+{}
+
+/// A failure is told after the delay and not before, unless it is cancelled in time or its answer asks for no delay, and
+/// failures that are due together are told in the order of their requests.
+pub fn failures_are_held_back()
+    ensures in_time { play two_seconds [] told_in_time ≡ told_in_time_replies }
+    ensures cancelled { play two_seconds [] cancelled_in_time ≡ cancelled_in_time_replies }
+    ensures cancelled_too_late { play two_seconds [] cancelled_too_late ≡ cancelled_too_late_replies }
+    ensures not_delayed { play two_seconds [] not_delayed ≡ not_delayed_replies }
+    ensures together { play two_seconds [] told_together ≡ told_together_replies }
+{}
+
+/// A query is given up once it ran as long as it may, and the answer to a cancelled request is recorded without a word.
+pub fn late_answers_change_nothing()
+    ensures given_up { play (default_settings 0) [] given_up ≡ given_up_replies }
+    ensures cancelled { play (default_settings 0) [] cancelled_before ≡ cancelled_before_replies }
+{}
+
+/// A login is handed over once, within 150,000 ms, by the cookie of its client's connection, unless it is cancelled or
+/// its client has ended.
+pub fn logins_are_handed_over_once()
+    ensures in_time { play with_users [] handed_over ≡ handed_over_replies }
+    ensures too_late { play with_users [] asked_too_late ≡ asked_too_late_replies }
+    ensures cancelled { play with_users [] cancelled_login ≡ nothing_to_hand_over_replies }
+    ensures ended { play with_users [] ended_client ≡ nothing_to_hand_over_replies }
+{}
+
+/// SCRAM-SHA-256 goes on with the salt and the rounds of the stored keys, and fails where no keys are stored.
+pub fn scram_goes_on_with_keys()
+    ensures keys { play scram_settings [] keys_told ≡ keys_told_replies }
+    ensures digest { play scram_settings [] digest_told ≡ digest_told_replies }
+{}

@@ -1,0 +1,2 @@
+pub mod DefaultSettings
+pub mod SettingsRanges

@@ -1,0 +1,6 @@
+use Rattle.std.proofs.Common.{rules}
+use Rattle.da_tables.proofs.RowChanges.{count_where_is}
+use Rattle.da_tables.proofs.connections.count_open.Goals as goal
+
+pub returns : goal.returns
+returns c = rw count_where_is (search rules)

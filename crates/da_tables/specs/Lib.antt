@@ -1,0 +1,4 @@
+pub mod Bridges
+pub mod Connections
+pub mod Queries
+pub mod Tables
