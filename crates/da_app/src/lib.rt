@@ -24,26 +24,3 @@ pub use pw::run_pw;
 pub use status::Status;
 pub use words::command;
 pub use worker::run_worker;
-
-#[cfg(test)]
-mod cases;
-#[cfg(test)]
-mod check_tests;
-#[cfg(test)]
-mod pw_tests;
-#[cfg(test)]
-mod tests;
-#[cfg(test)]
-mod tests_of_connections;
-#[cfg(test)]
-mod tests_of_databases;
-#[cfg(test)]
-mod tests_of_delays;
-#[cfg(test)]
-mod tests_of_handovers;
-#[cfg(test)]
-mod tests_of_mechanisms;
-#[cfg(test)]
-mod tests_of_the_cache;
-#[cfg(test)]
-mod worker_tests;

@@ -6,6 +6,3 @@ mod child;
 mod reply;
 
 pub use child::check;
-
-#[cfg(test)]
-mod tests;

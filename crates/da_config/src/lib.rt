@@ -17,6 +17,3 @@ mod userdb;
 
 pub use document::read;
 pub use fault::{ConfigFault, Fault, FaultKind};
-
-#[cfg(test)]
-mod tests;

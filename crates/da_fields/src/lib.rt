@@ -15,6 +15,3 @@ pub use merging::{merge, userdb_part, visible};
 pub use outcome::{Outcome, Rule};
 pub use said::Said;
 pub use text::Text;
-
-#[cfg(test)]
-mod tests;

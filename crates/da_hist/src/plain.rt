@@ -2,7 +2,7 @@
 
 ghost use Rattle.std.specs.Prelude.{◌≡◌, ◌<◌, ◌^◌, ◌-◌, [], ◌∷◌, length, IfOk, option_map, option_and_then, reverse, Ok, IfErr, OnOk};
 ghost use Rattle.da_base.specs.Words.{nth};
-ghost use Rattle.da_answers.specs.Bridges.{Tries};
+ghost use Rattle.da_hist.specs.Bridges.{Tries};
 ghost use Rattle.da_play.specs.Effects.{effects};
 ghost use Rattle.da_play.specs.History.{after_input, after};
 ghost use Rattle.da_play.specs.Legal.{last_moment};

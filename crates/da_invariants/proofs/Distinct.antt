@@ -146,10 +146,10 @@ module _ (settings : Settings) (moment : ℕ) (before : Tables) (entered : Input
     MoverToCome tables None done = Unit {0}
     MoverToCome tables (Some n) done = HasToCome tables n done
 
-    record DistinctNow (tables : Tables) (m : Option ℕ) (done : List ℕ) : Type 0 where
-      pub tables : TablesStand origin tables
-      pub all : AllDistinct tables.requests
-      pub continued : MoverToCome tables m done
+    record DistinctNow (these : Tables) (m : Option ℕ) (done : List ℕ) : Type 0 where
+      pub tables : TablesStand origin these
+      pub all : AllDistinct these.requests
+      pub continued : MoverToCome these m done
 
     abbrev all_distinct : Tables → Option ℕ → Type 0
     all_distinct tables m = AllDistinct tables.requests

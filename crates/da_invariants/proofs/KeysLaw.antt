@@ -215,17 +215,17 @@ told_is_recorded settings moment query given before a is run Tick t = absurd t
 
 module _ (settings : Settings) (moment : ℕ) (before hs : Tables) (entered : Input) (hits : List ℕ) (fits : IsFit settings hs) (cached : AllCached hs hits)
     (rec : (query : ℕ) (given : Answer) (a : QueryRow) → entered ≡ Answered query given → nth before.queries query ≡ Some a → is_running a ≡ true → IsRecorded hs.queries query a (recorded_answer a.question.kind given) moment) where
-  record CacheNow (tables : Tables) : Type 0 where
-    pub tables : TablesStand hs tables
-    pub cacheable : tables.cacheable ≡ hs.cacheable
-    pub fit : length tables.keys ≤ settings.cache_size
-    pub distinct : (k : Key) → count_where (same_key k) tables.keys ≤ 1
-    pub within : (k : Key) → has_key k tables.keys ≡ true → has_key k hs.keys ≡ true
-    pub all : (k : Key) → has_key k hs.keys ≡ true → has_key k tables.keys ≡ true
+  record CacheNow (these : Tables) : Type 0 where
+    pub tables : TablesStand hs these
+    pub cacheable : these.cacheable ≡ hs.cacheable
+    pub fit : length these.keys ≤ settings.cache_size
+    pub distinct : (k : Key) → count_where (same_key k) these.keys ≤ 1
+    pub within : (k : Key) → has_key k these.keys ≡ true → has_key k hs.keys ≡ true
+    pub all : (k : Key) → has_key k hs.keys ≡ true → has_key k these.keys ≡ true
 
-  record FitNow (tables : Tables) : Type 0 where
-    pub tables : TablesStand hs tables
-    pub fit : IsFit settings tables
+  record FitNow (these : Tables) : Type 0 where
+    pub tables : TablesStand hs these
+    pub fit : IsFit settings these
 
   abbrev cache_now : Tables → Option ℕ → List ℕ → Type 0
   cache_now tables m done = CacheNow tables

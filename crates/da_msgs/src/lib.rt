@@ -19,6 +19,3 @@ pub use laws::{
     a_master_line_is_read_as_it_spells, a_master_line_spells_one_message,
 };
 pub use master::{MasterMsg, MasterReply};
-
-#[cfg(test)]
-mod tests;

@@ -10,6 +10,3 @@ pub use filters::filter_matches;
 pub use names::{normal, split_master};
 pub use templates::{expand, template_ok};
 pub use variables::{VarText, Vars};
-
-#[cfg(test)]
-mod tests;

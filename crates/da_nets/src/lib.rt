@@ -9,6 +9,3 @@ mod parts;
 pub use address::Ip;
 pub use laws::addresses_are_read_from_their_spellings;
 pub use network::{Net, allowed};
-
-#[cfg(test)]
-mod tests;

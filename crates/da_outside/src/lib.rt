@@ -39,6 +39,3 @@ pub use runner::{Exit, MemRunner, Run, Runner, SoundRunner};
 pub use sink::{MemSink, Sink, SoundSink};
 pub use source::{MemSource, SoundSource, Source};
 pub use spawner::{MemSpawner, SoundSpawner, Spawned, Spawner, StartedLink, Talk};
-
-#[cfg(test)]
-mod tests;

@@ -19,6 +19,3 @@ pub use da_fields::Rule;
 pub use database::{Driver, Passdb, Skip, are_valid_passdbs};
 pub use login::{Login, Proof};
 pub use outcome::password_comparison;
-
-#[cfg(test)]
-mod tests;

@@ -9,6 +9,3 @@ mod plain;
 pub use laws::{login_says_one_thing, plain_says_one_thing};
 pub use login::login_says;
 pub use plain::plain_says;
-
-#[cfg(test)]
-mod tests;

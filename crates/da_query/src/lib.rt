@@ -18,6 +18,3 @@ pub use laws::{
 };
 pub use printing::{print, print_answer};
 pub use queries::read_query;
-
-#[cfg(test)]
-mod tests;

@@ -32,9 +32,9 @@ module _ (settings : Settings) (e : Entry) (origin : Tables) where
   h = after_input settings e.moment e.input before
 
   -- nothing is recorded among the recordings yet
-  record Unkept (tables : Tables) : Type 0 where
-    pub cacheable : tables.cacheable ≡ before.cacheable
-    pub tables : TablesStand before tables
+  record Unkept (these : Tables) : Type 0 where
+    pub cacheable : these.cacheable ≡ before.cacheable
+    pub tables : TablesStand before these
 
   stand : HeardParts settings e.moment before e.input (λ tables m. TablesStand before tables)
   stand = heard_stands settings e.moment before before e.input e.hits

@@ -173,10 +173,10 @@ module _ (settings : Settings) (e : Entry) (origin : Tables) where
     abbrev tests_by : Option Request → List ℕ → ℕ → List Bool
     tests_by o done k = option_or_else o [] (λ r. hit_tests settings origin.queries r done k)
 
-    record HitsNow (tables : Tables) (m : Option ℕ) (done : List ℕ) : Type 0 where
-      pub tables : TablesStand origin tables
-      pub continued : MoverIs tables m done (row m)
-      pub comparisons : (k : ℕ) → tests_at tables.queries k ≡ tests_by (row m) done k ++ tests_at h.tables.queries k
+    record HitsNow (these : Tables) (m : Option ℕ) (done : List ℕ) : Type 0 where
+      pub tables : TablesStand origin these
+      pub continued : MoverIs these m done (row m)
+      pub comparisons : (k : ℕ) → tests_at these.queries k ≡ tests_by (row m) done k ++ tests_at h.tables.queries k
 
     abbrev hits_after : Tables → Option ℕ → Type 0
     hits_after tables m = (k : ℕ) → tests_at tables.queries k ≡ tests_by (row m) e.hits k ++ tests_at h.tables.queries k

@@ -187,9 +187,9 @@ module _ (settings : Settings) (e : Entry) (origin : Tables) where
     abbrev HasHits : Tables → Option ℕ → List ℕ → Type 0
     HasHits tables m done = (n : ℕ) → answers_at tables.requests n ≡ answers_at h.tables.requests n ++ if_moved m n (flat_map (answer_under origin.queries) done)
 
-    record HitsNow (tables : Tables) (m : Option ℕ) (done : List ℕ) : Type 0 where
-      pub tables : TablesStand origin tables
-      pub answers : HasHits tables m done
+    record HitsNow (these : Tables) (m : Option ℕ) (done : List ℕ) : Type 0 where
+      pub tables : TablesStand origin these
+      pub answers : HasHits these m done
 
     abbrev hits_after : Tables → Option ℕ → Type 0
     hits_after tables m = HasHits tables m e.hits

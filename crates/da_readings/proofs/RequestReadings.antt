@@ -92,9 +92,9 @@ module _ (settings : Settings) (e : Entry) (origin : Tables) where
     replied = came_mapped (λ (r : Request). r.replied) AnyRow NewlyReplied origin.requests any any_on replied_moves (as_cancelled_of conn) before.requests (λ r. tt) (λ n r x is d. inl (sym (cancelled_of_touches conn r).replied ∙ d)) p.replied;
   }
 
-  record CameNow (tables : Tables) : Type 0 where
-    pub tables : TablesStand origin tables
-    pub came : BothCame tables.requests
+  record CameNow (these : Tables) : Type 0 where
+    pub tables : TablesStand origin these
+    pub came : BothCame these.requests
 
   abbrev came_now : Tables → Option ℕ → List ℕ → Type 0
   came_now tables m done = CameNow tables

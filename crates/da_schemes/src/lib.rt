@@ -26,5 +26,3 @@ mod read;
 mod scheme;
 mod secret;
 mod stored;
-#[cfg(test)]
-mod tests;

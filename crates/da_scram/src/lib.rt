@@ -16,6 +16,3 @@ pub use laws::{
     scram_says_one_thing, the_example_of_rfc_7677_is_right,
 };
 pub use server::request_salt;
-
-#[cfg(test)]
-mod tests;

@@ -16,6 +16,3 @@ pub use laws::{
 };
 pub use printing::print_event;
 pub use replies::{print_outputs, print_refused};
-
-#[cfg(test)]
-mod tests;

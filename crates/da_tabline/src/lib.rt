@@ -19,6 +19,3 @@ pub use numbers::{decimal_number, decimal_u32, number_is_decimal, printed_number
 pub use parts::{key_and_value, split_at_byte, strip_front};
 pub use pieces::fields;
 pub use spelling::{a_line_goes_on, a_written_line_is_read, push_field};
-
-#[cfg(test)]
-mod tests;

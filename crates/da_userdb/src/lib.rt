@@ -12,6 +12,3 @@ mod walk;
 pub use cursor::{UserCursor, user_next};
 pub use da_fields::Rule as UserRule;
 pub use database::{Lookup, UserChain, UserDriver, UserSkip, Userdb, are_valid_userdbs};
-
-#[cfg(test)]
-mod tests;

@@ -15,6 +15,3 @@ pub use laws::a_good_input_is_answered;
 pub use output::write_all;
 pub use passwd::row;
 pub use worker::{WorkerStatus, answer_all};
-
-#[cfg(test)]
-mod tests;

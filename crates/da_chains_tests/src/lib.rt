@@ -1,0 +1,7 @@
+//! The tests of the chains of databases.
+#![tactic(auto)]
+
+#[cfg(test)]
+mod passdb;
+#[cfg(test)]
+mod userdb;

@@ -1,0 +1,5 @@
+//! The tests of settings.
+#![tactic(auto)]
+
+#[cfg(test)]
+mod tests;

@@ -1,5 +1,0 @@
-use Rattle.da_passdb.specs.Cursors.{IsAlong}
-use Rattle.da_passdb.proofs.tests.take_all.Given as goal
-
-abbrev pub invariant-loop-answer : goal.invariant-loop-answer
-invariant-loop-answer l = IsAlong l.dbs l.cursor

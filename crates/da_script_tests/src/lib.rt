@@ -1,0 +1,5 @@
+//! The tests of scripts.
+#![tactic(auto)]
+
+#[cfg(test)]
+mod tests;

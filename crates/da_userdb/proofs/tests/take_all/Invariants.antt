@@ -1,5 +1,0 @@
-use Rattle.da_userdb.specs.UserCursors.{IsAlong}
-use Rattle.da_userdb.proofs.tests.take_all.Given as goal
-
-abbrev pub invariant-loop-answer : goal.invariant-loop-answer
-invariant-loop-answer l = IsAlong l.dbs l.cursor
