@@ -38,7 +38,7 @@ may_use (Some false) comparisons = last_failed comparisons
 may_use _ comparisons = true
 
 -- what makes an answer usable for what a request asks: its key is in the cache, no newer answer has this key, it is within
--- its life, and a password that it doesn't match didn't match at the last use either
+-- its ttl, and a password that it doesn't match didn't match at the last use either
 pub record IsUsable (settings : Settings) (moment : ℕ) (tables : Tables) (r : Request) (q : Question) (number : ℕ) : Type 0 where
   pub is_cached : has_key (key_of q) tables.keys ≡ true
   pub is_newest : newest tables (key_of q) ≡ Some number

@@ -1,4 +1,4 @@
--- Queries: which wait, which run, and what is recorded of their answers.
+-- What is recorded of an answer, and what of it is kept.
 use Rattle.std.specs.Prelude.{ℕ, Bool, true, false, List, [], ◌∷◌, Option, Some, None, if◌then◌else◌}
 use Rattle.da_base.specs.Words.{nth, passes_option, option_or_else}
 use Rattle.da_fields.specs.Answers.{fits, Answers}
@@ -52,7 +52,7 @@ abbrev pub answered_by : Settings → ℕ → Option Request → Answer → Quer
 answered_by settings moment r answer a =
     record a { answer = Some (answer, moment); comparisons = compared_by settings r a.question answer a.comparisons }
 
--- the answer to its query moves a request, unless it was cancelled before
+-- the answer to its query continues a request, unless it was cancelled before
 abbrev pub answers_request : ℕ → Question → Answer → Tables → AfterInput
 answers_request number q answer tables =
     if passes_option is_undecided (nth tables.requests number)

@@ -102,11 +102,13 @@ pub fn is_usable(
 ) -> Result<bool, AllocError>
     ensures { IfOk result (λ usable. usable ≡ is_usable settings.now moment tables.now request.now question.now number) }
 {
-    let Some(query_row) = row(tables.queries.all(), number) else {
+    let Some(query_row) = tables.query(number) else {
         return Ok(false);
     };
     match &query_row.answer {
-        Some(answer) => is_usable_answer(alloc, settings, moment, request, question, query_row, answer),
+        Some(answer) => is_usable_answer(
+            alloc, settings, moment, request, question, query_row, answer,
+        ),
         None => Ok(false),
     }
 }
@@ -172,7 +174,7 @@ fn next_hit(
 fn answer_of(tables: &Tables, number: u32) -> Option<&Answer>
     ensures { option_map (λ answer. answer.now) result ≡ answer_of tables.now number }
 {
-    match row(tables.queries.all(), number) {
+    match tables.query(number) {
         Some(query_row) => match &query_row.answer {
             Some((answer, _)) => Some(answer),
             None => None,
@@ -323,7 +325,7 @@ pub fn after_hit(
 ) -> Result<(), AllocError>
     ensures { OnOk result (tables.new ≡ after_hit settings.now continued tables.old number) }
 {
-    let Some(query_row) = row(tables.queries.all(), number) else {
+    let Some(query_row) = tables.query(number) else {
         return Ok(());
     };
     let Some((answer, _)) = &query_row.answer else {

@@ -15,7 +15,10 @@ use da_keys::Key;
 use da_query::fit;
 use da_request::{Question, Request, row, use_comparison};
 use da_settings::Settings;
-use da_tables::{InputEffect, Queries, Requests, Tables, answer_in_row, is_running, is_undecided_in, late_answer_in_row, put_in_row};
+use da_tables::{
+    InputEffect, Queries, Requests, Tables, answer_in_row, is_running, is_undecided_in,
+    late_answer_in_row, put_in_row,
+};
 use std::alloc::{AllocError, Global};
 
 // ---- what is recorded of an answer
@@ -131,8 +134,8 @@ pub(crate) fn answer_query(
     )
 }
 
-/// The request has this answer, and moves by it. One that was cancelled before it was decided has its late answer too, and
-/// doesn't move.
+/// The request has this answer, and continues by it. One that was cancelled before it was decided has its late answer too, and
+/// doesn't continue.
 pub(crate) fn answer_request(
     number: u32,
     db: u32,
@@ -160,7 +163,7 @@ fn record_answer_for(
 ) -> Result<InputEffect, AllocError>
     ensures { (a : SomeQueryRow) → nth tables.old.queries number ≡ Some a → IfOk result (λ effect. with_effect tables.new effect ≡ after_answer_for settings.now moment number a answer tables.old) }
 {
-    let Some(query_row) = row(tables.queries.all(), number) else {
+    let Some(query_row) = tables.query(number) else {
         return Ok(InputEffect::continuing_none());
     };
     let request = query_row.request;
@@ -181,7 +184,7 @@ pub fn record_answer(
 ) -> Result<InputEffect, AllocError>
     ensures { IfOk result (λ effect. with_effect tables.new effect ≡ after_answer settings.now moment number answer (nth tables.old.queries number) tables.old) }
 {
-    let Some(query_row) = row(tables.queries.all(), number) else {
+    let Some(query_row) = tables.query(number) else {
         return Ok(InputEffect::continuing_none());
     };
     if !is_running(query_row) {
@@ -217,7 +220,7 @@ pub fn keep(
 ) -> Result<(), AllocError>
     ensures { (a : SomeQueryRow) → nth tables.old.queries number ≡ Some a → OnOk result (tables.new ≡ kept_in settings.now number a.question answer.now tables.old) }
 {
-    let Some(query_row) = row(tables.queries.all(), number) else {
+    let Some(query_row) = tables.query(number) else {
         return Ok(());
     };
     if !is_kept(query_row.question.kind, answer) {

@@ -14,7 +14,7 @@ use Rattle.da_config.specs.SettingsText.{settings_of, fault_at_all}
 use Rattle.da_app.specs.declared.status.Status.{Status}
 use Rattle.da_app.specs.declared.status.Status.TheVariants.{Done, Usage, BadScript, LongScript, BadInput, NoSettings, NoListen, NoMemory, ReadFault, WriteFault, Full, BadSettings}
 use Rattle.da_app.specs.SettingsFile.{ReadsSettings, IsTooLong, fault_status}
-use Rattle.da_worker.specs.Turns.{Told}
+use Rattle.da_worker.specs.AnsweredQueries.{Told}
 use Rattle.da_app.specs.Check.{CheckOutside, files_told, ChecksWith, Checks, IsGoodFile, CompletesCheck}
 use Rattle.da_app.specs.Drive.{IsDone}
 use Rattle.da_app.proofs.DriveLemmas.{IfSome-map}

@@ -21,8 +21,8 @@ use Rattle.da_play.specs.Served.{Served}
 use Rattle.da_play.specs.Steps.{IsRefused, IsEntered, Steps}
 use Rattle.da_script.specs.Events.{event_of}
 use Rattle.da_script.specs.Replies.{reply_text, outputs_text, refused_text}
-use Rattle.da_app.specs.declared.play.Turn.{Turn}
-use Rattle.da_app.specs.declared.play.Turn.TheVariants.{Played, NotEvent, Full as TurnFull, WriteFault, NoMemory as TurnNoMemory}
+use Rattle.da_app.specs.declared.play.LineEnd.{LineEnd}
+use Rattle.da_app.specs.declared.play.LineEnd.TheVariants.{Played, NotEvent, Full as TurnFull, WriteFault, NoMemory as TurnNoMemory}
 use Rattle.da_app.specs.Play.{Plays, WritesReply, ending}
 
 -- ---- a full history is told where the history is full, and nowhere else
@@ -108,7 +108,7 @@ refused_keeps s h m input refused e =
 
 -- ---- the play of a line
 
-written_plays : (n : ℕ) (line : Bytes) (event : Event) (old new : Served) (before now : Option Bytes) (f g : ℕ) (turn : Turn) → event_of line ≡ Some event
+written_plays : (n : ℕ) (line : Bytes) (event : Event) (old new : Served) (before now : Option Bytes) (f g : ℕ) (turn : LineEnd) → event_of line ≡ Some event
     → is_full old.settings old.history ≡ false
     → new ≡ record old { history = history_after old.settings old.history event.0 event.1 }
     → WritesReply (reply_text n (reply old.settings old.history event.0 event.1)) before now f g turn → Plays n line old new before now f g turn
@@ -120,7 +120,7 @@ written_plays n line event old new before now f g WriteFault spelled room goes_o
 written_plays n line event old new before now f g TurnNoMemory spelled room goes_on writes = writes
 
 -- an event that is an entry
-pub entered_plays : (n : ℕ) (line : Bytes) (event : Event) (old new : Served) (before now : Option Bytes) (f g : ℕ) (turn : Turn) (out : Outputs) → event_of line ≡ Some event
+pub entered_plays : (n : ℕ) (line : Bytes) (event : Event) (old new : Served) (before now : Option Bytes) (f g : ℕ) (turn : LineEnd) (out : Outputs) → event_of line ≡ Some event
     → IsEntered old new event.0 event.1 out → WritesReply (outputs_text n out) before now f g turn → Plays n line old new before now f g turn
 entered_plays n line event old new before now f g turn out spelled enters writes =
     written_plays n line event old new before now f g turn spelled
@@ -128,7 +128,7 @@ entered_plays n line event old new before now f g turn out spelled enters writes
     (subst (λ r. WritesReply (reply_text n r) before now f g turn) (sym enters.replies) writes)
 
 -- an event that is refused, and the refusal is printed
-module _ (n : ℕ) (line : Bytes) (event : Event) (old new : Served) (before now : Option Bytes) (f g : ℕ) (turn : Turn) (spelled : event_of line ≡ Some event) where
+module _ (n : ℕ) (line : Bytes) (event : Event) (old new : Served) (before now : Option Bytes) (f g : ℕ) (turn : LineEnd) (spelled : event_of line ≡ Some event) where
   told_plays : (refused : Refused) → is_other (Err refused) → IsRefused old new event.0 event.1 refused → WritesReply (refused_text n refused) before now f g turn
       → Plays n line old new before now f g turn
   told_plays refused other reported writes =
@@ -148,10 +148,10 @@ module _ (n : ℕ) (line : Bytes) (event : Event) (old new : Served) (before now
   refused_plays NoMemory goes reported writes = cc
 
 -- an event that ends the play at once
-pub ended_plays : (n : ℕ) (line : Bytes) (event : Event) (old new : Served) (now : Option Bytes) (f : ℕ) (turn : Turn) (refused : Refused) → event_of line ≡ Some event
+pub ended_plays : (n : ℕ) (line : Bytes) (event : Event) (old new : Served) (now : Option Bytes) (f : ℕ) (turn : LineEnd) (refused : Refused) → event_of line ≡ Some event
     → ending refused ≡ Some turn → Steps old new event.0 event.1 (Err refused) → Plays n line old new now now f f turn
 ended_plays n line event old new now f turn HistoryFull spelled ends reported =
-    subst (λ (t : Turn). Plays n line old new now now f f t) (same_Some _ _ ends)
+    subst (λ (t : LineEnd). Plays n line old new now now f f t) (same_Some _ _ ends)
     (record { event = event; spelled = spelled; full = told_full old.settings old.history event.0 event.1 reported.refuses; keeps = Keeps-refl now })
 ended_plays n line event old new now f turn (ConnLimit count) spelled ends reported = cc
 ended_plays n line event old new now f turn (NoConn conn) spelled ends reported = cc
@@ -159,4 +159,4 @@ ended_plays n line event old new now f turn NothingWaits spelled ends reported =
 ended_plays n line event old new now f turn (NotTaken query) spelled ends reported = cc
 ended_plays n line event old new now f turn (NotLate query due) spelled ends reported = cc
 ended_plays n line event old new now f turn NoMemory spelled ends reported =
-    subst (λ (t : Turn). Plays n line old new now now f f t) (same_Some _ _ ends) (Keeps-refl now)
+    subst (λ (t : LineEnd). Plays n line old new now now f f t) (same_Some _ _ ends) (Keeps-refl now)

@@ -8,7 +8,7 @@ use Rattle.da_settings.specs.declared.settings.Settings.{Settings}
 use Rattle.da_config.specs.SettingsText.{settings_of}
 use Rattle.da_worker.specs.declared.worker.WorkerStatus.{WorkerStatus}
 use Rattle.da_worker.specs.declared.worker.WorkerStatus.TheVariants.{Done as WorkDone, BadInput as BadLine, LongInput, ReadFault as WorkReadFault, WriteFault as WorkWriteFault, NoMemory as WorkNoMemory}
-use Rattle.da_worker.specs.Turns.{Told}
+use Rattle.da_worker.specs.AnsweredQueries.{Told}
 use Rattle.da_worker.specs.Run.{Ran, IsAnswered}
 use Rattle.da_worker.proofs.Complete.{completes}
 use Rattle.da_app.specs.declared.status.Status.{Status}

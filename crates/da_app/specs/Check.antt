@@ -11,7 +11,7 @@ use Rattle.da_config.specs.SettingsText.{settings_of}
 use Rattle.da_app.specs.declared.status.Status.{Status}
 use Rattle.da_app.specs.declared.status.Status.TheVariants.{Done, Usage, NoSettings, NoMemory, WriteFault, BadSettings}
 use Rattle.da_worker.specs.Output.{WrittenFront}
-use Rattle.da_worker.specs.Turns.{Told}
+use Rattle.da_worker.specs.AnsweredQueries.{Told}
 use Rattle.da_app.specs.SettingsFile.{HoldsSettings, PathFails}
 use Rattle.da_app.specs.Drive.{IsDone}
 

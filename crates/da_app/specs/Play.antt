@@ -13,8 +13,8 @@ use Rattle.da_script.specs.Events.{event_of}
 use Rattle.da_script.specs.Replies.{reply_text}
 use Rattle.da_script.specs.Scripts.{events}
 use Rattle.da_worker.specs.Output.{Begins, WrittenFront}
-use Rattle.da_app.specs.declared.play.Turn.{Turn}
-use Rattle.da_app.specs.declared.play.Turn.TheVariants.{Played, NotEvent, Full as TurnFull, WriteFault as TurnWriteFault, NoMemory as TurnNoMemory}
+use Rattle.da_app.specs.declared.play.LineEnd.{LineEnd}
+use Rattle.da_app.specs.declared.play.LineEnd.TheVariants.{Played, NotEvent, Full as TurnFull, WriteFault as TurnWriteFault, NoMemory as TurnNoMemory}
 use Rattle.da_app.specs.declared.status.Status.{Status}
 use Rattle.da_app.specs.declared.status.Status.TheVariants.{Done, BadScript, LongScript, NoMemory, ReadFault, WriteFault, Full}
 use Rattle.da_app.specs.Script.{first_bad, first_bad_at_end, first_full, output_of, output}
@@ -42,7 +42,7 @@ pub record PlaysFront (n : ℕ) (line : Bytes) (old : Served) (before now : Opti
   pub spelled : event_of line ≡ Some event
   pub front : WrittenFront (reply_text n (reply old.settings old.history event.0 event.1)) before now faults_before faults_now
 
-abbrev pub Plays : ℕ → Bytes → Served → Served → Option Bytes → Option Bytes → ℕ → ℕ → Turn → Type 0
+abbrev pub Plays : ℕ → Bytes → Served → Served → Option Bytes → Option Bytes → ℕ → ℕ → LineEnd → Type 0
 Plays n line old new before now faults_before faults_now Played = PlaysEvent n line old new before now × (faults_before ≤ faults_now)
 Plays n line old new before now faults_before faults_now NotEvent = (event_of line ≡ None) × Keeps before now
 Plays n line old new before now faults_before faults_now TurnFull = MeetsFull line old before now
@@ -50,7 +50,7 @@ Plays n line old new before now faults_before faults_now TurnWriteFault = PlaysF
 Plays n line old new before now faults_before faults_now TurnNoMemory = Keeps before now
 
 -- how the play of a line ends at once, where its event is refused so
-abbrev pub ending : Refused → Option Turn
+abbrev pub ending : Refused → Option LineEnd
 ending HistoryFull = Some TurnFull
 ending (ConnLimit count) = None
 ending (NoConn conn) = None
@@ -60,7 +60,7 @@ ending (NotLate query due) = None
 ending RefusedNoMemory = Some TurnNoMemory
 
 -- a reply is written, or a front of it before a fault, or nothing where memory was wanted
-abbrev pub WritesReply : Bytes → Option Bytes → Option Bytes → ℕ → ℕ → Turn → Type 0
+abbrev pub WritesReply : Bytes → Option Bytes → Option Bytes → ℕ → ℕ → LineEnd → Type 0
 WritesReply text before now faults_before faults_now Played = Appends before now text × (faults_before ≤ faults_now)
 WritesReply text before now faults_before faults_now TurnWriteFault = WrittenFront text before now faults_before faults_now
 WritesReply text before now faults_before faults_now TurnNoMemory = Keeps before now

@@ -10,7 +10,7 @@ use Rattle.da_config.specs.declared.fault.FaultKind.TheVariants.{Range}
 use Rattle.da_config.specs.declared.fault.ConfigFault.{ConfigFault}
 use Rattle.da_config.specs.declared.fault.ConfigFault.TheVariants.{Bad, NoMemory as TextNoMemory}
 use Rattle.da_config.specs.SettingsText.{settings_of, fault_at_all}
-use Rattle.da_worker.specs.Turns.{Told, ReadsFiles}
+use Rattle.da_worker.specs.AnsweredQueries.{Told, ReadsFiles}
 use Rattle.da_app.specs.declared.status.Status.{Status}
 use Rattle.da_app.specs.declared.status.Status.TheVariants.{NoSettings, NoMemory, BadSettings}
 

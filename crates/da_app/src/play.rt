@@ -19,7 +19,7 @@ const INPUT_MAX: usize = 1_073_741_824;
 
 /// How the play of one line ended.
 #[derive(Clone, Copy, Drop)]
-pub enum Turn {
+pub enum LineEnd {
     /// Its event was played or refused, and the reply to it written.
     Played,
     /// It is no event.
@@ -38,13 +38,13 @@ fn play_line<K: Sink>(
     number: u64,
     line: &[u8],
     output: &mut K,
-) -> Turn
+) -> LineEnd
     ensures { Plays number line.now server.old server.new (K.contents output.old) (K.contents output.new) (K.faults output.old) (K.faults output.new) result }
 {
     let event = match read_event(alloc, line) {
         Ok(Some(event)) => event,
-        Ok(None) => return Turn::NotEvent,
-        Err(_) => return Turn::NoMemory,
+        Ok(None) => return LineEnd::NotEvent,
+        Err(_) => return LineEnd::NoMemory,
     };
     match server.step(event.0, event.1) {
         Ok(outputs) => write_reply(print_outputs(alloc, number, &outputs), output),
@@ -56,12 +56,12 @@ fn play_line<K: Sink>(
 }
 
 /// How a line's play ends at once, where its event is refused so. The other refusals are printed, and the play goes on.
-fn ending(refused: Refused) -> Option<Turn>
+fn ending(refused: Refused) -> Option<LineEnd>
     ensures { result ≡ ending refused }
 {
     match refused {
-        Refused::HistoryFull => Some(Turn::Full),
-        Refused::NoMemory => Some(Turn::NoMemory),
+        Refused::HistoryFull => Some(LineEnd::Full),
+        Refused::NoMemory => Some(LineEnd::NoMemory),
         Refused::ConnLimit { .. }
         | Refused::NoConn { .. }
         | Refused::NothingWaits
@@ -71,15 +71,15 @@ fn ending(refused: Refused) -> Option<Turn>
 }
 
 /// Writes a printed reply, where there was memory to print it.
-fn write_reply<K: Sink>(text: Result<Vec<u8>, AllocError>, output: &mut K) -> Turn
+fn write_reply<K: Sink>(text: Result<Vec<u8>, AllocError>, output: &mut K) -> LineEnd
     ensures { (reply : List ℕ) → IfOk text (λ t. t.items ≡ reply) → WritesReply reply (K.contents output.old) (K.contents output.new) (K.faults output.old) (K.faults output.new) result }
 {
     let Ok(text) = text else {
-        return Turn::NoMemory;
+        return LineEnd::NoMemory;
     };
     match write_all(output, &text) {
-        Ok(()) => Turn::Played,
-        Err(_) => Turn::WriteFault,
+        Ok(()) => LineEnd::Played,
+        Err(_) => LineEnd::WriteFault,
     }
 }
 
@@ -103,11 +103,11 @@ pub fn play_script<S: Source, K: Sink>(
     'read: loop {
         'lines: while let Some(line) = lines.next() {
             match play_line(alloc, &mut server, number, &line, output) {
-                Turn::Played => number += 1,
-                Turn::NotEvent => return Status::BadScript { line: number },
-                Turn::Full => return Status::Full,
-                Turn::WriteFault => return Status::WriteFault,
-                Turn::NoMemory => return Status::NoMemory,
+                LineEnd::Played => number += 1,
+                LineEnd::NotEvent => return Status::BadScript { line: number },
+                LineEnd::Full => return Status::Full,
+                LineEnd::WriteFault => return Status::WriteFault,
+                LineEnd::NoMemory => return Status::NoMemory,
             }
         }
         if is_long {

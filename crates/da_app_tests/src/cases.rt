@@ -1,7 +1,7 @@
 // Scripts, and what must come of them: what the tests of logins have in common.
 
-use da_app::run_drive;
 use crate::first_login::words_of;
+use da_app::run_drive;
 use da_outside::{MemFiles, MemSink, MemSource};
 use da_tabline::{split_at_byte, strip_front};
 use std::alloc::{AllocError, Global};

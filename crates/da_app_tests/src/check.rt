@@ -1,7 +1,7 @@
 // Checks of a settings file in memory.
 
-use da_app::run_check;
 use crate::first_login::words_of;
+use da_app::run_check;
 use da_outside::{MemFiles, MemSink};
 use std::alloc::{AllocError, Global};
 use std::test::Fail;
@@ -108,7 +108,11 @@ fn is_as_told(alloc: Global, case: &Case) -> Result<bool, AllocError> {
     let mut output = MemSink::new(alloc, vec![in alloc; case.write_fails]?);
     let status = run_check(alloc, &words, &mut files, &mut output);
     let reported = status.words(alloc)?;
-    Ok(status.code() == case.code && output.bytes() == case.written && reported.as_slice() == case.reported)
+    Ok(
+        status.code() == case.code
+            && output.bytes() == case.written
+            && reported.as_slice() == case.reported,
+    )
 }
 
 #[test]

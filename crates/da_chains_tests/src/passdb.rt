@@ -1,8 +1,8 @@
 ghost use Rattle.da_passdb.specs.Cursors.{IsAlong};
 
-use da_passdb::*;
 use da_fields::{Answer, Fields, QueryKind, Text, Why};
 use da_names::{VarText, Vars};
+use da_passdb::*;
 use da_schemes::{Checked, Octets, Scheme, Stored};
 use std::alloc::{AllocError, Global};
 use std::test::Fail;

@@ -1,8 +1,8 @@
 ghost use Rattle.da_userdb.specs.UserCursors.{IsAlong};
 
-use da_userdb::*;
 use da_fields::{Answer, Fields, Text, Why};
 use da_names::{VarText, Vars};
+use da_userdb::*;
 use std::alloc::{AllocError, Global};
 use std::test::Fail;
 

@@ -14,8 +14,8 @@ use crate::part::TomlTable;
 use crate::passdb::passdb;
 use crate::userdb::userdb;
 use da_fields::Text;
-use da_settings::{Passdbs, Userdbs, default_passdb};
 use da_passdb::{Driver, Passdb};
+use da_settings::{Passdbs, Userdbs, default_passdb};
 use std::alloc::{AllocError, Global};
 use toml::Value;
 

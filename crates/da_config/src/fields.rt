@@ -10,8 +10,8 @@ ghost use Rattle.da_config.specs.Databases.{IsFieldOf, fields_after, fields_of, 
 use crate::fault::{ConfigFault, FaultKind};
 use crate::part::TomlTable;
 use da_fields::{Fields, Text};
-use da_settings::Texts;
 use da_names::template_ok;
+use da_settings::Texts;
 use da_tabline::split_at_byte;
 use std::alloc::{AllocError, Global};
 

@@ -9,8 +9,8 @@ use crate::choices::mechanism_called;
 use crate::fault::{ConfigFault, FaultKind};
 use crate::part::TomlTable;
 use da_fields::Text;
-use da_settings::{Mechs, Texts};
 use da_msgs::Mech;
+use da_settings::{Mechs, Texts};
 use std::alloc::{AllocError, Global};
 
 const KEY: &str = "mechanisms";

@@ -30,7 +30,12 @@ const KEYS: [&str; 12] = [
 ];
 
 /// The rule at a key, and the one of this name where it is missing.
-pub fn rule(alloc: Global, part: &TomlTable<'_>, key: &str, default: &[u8]) -> Result<Rule, ConfigFault>
+pub fn rule(
+    alloc: Global,
+    part: &TomlTable<'_>,
+    key: &str,
+    default: &[u8],
+) -> Result<Rule, ConfigFault>
     ensures { IsRead (rule_of (part_of part.now) key.now default.now) result }
 {
     let text = part.text(alloc, key, default)?;

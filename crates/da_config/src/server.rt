@@ -9,7 +9,7 @@ ghost use Rattle.da_config.specs.Servers.{DatabasesFit, LimitsFit, NamesFit, Spa
 
 use crate::databases::{passdbs, unconflicted, userdbs};
 use crate::fault::{ConfigFault, FaultKind};
-use crate::groups::{Databases, Limits, NameSettings, Durations, Workers};
+use crate::groups::{Databases, Durations, Limits, NameSettings, Workers};
 use crate::mechanisms::mechanisms;
 use crate::part::TomlTable;
 use da_fields::Text;

@@ -8,16 +8,16 @@ ghost use Rattle.da_request.specs.declared.request.Request.{Request as SomeReque
 ghost use Rattle.da_tables.specs.Bridges.{with_effect};
 ghost use Rattle.da_tables.specs.declared.tables.Tables.{Tables as SomeTables};
 
-use da_lines::line;
 use da_answers::{after_hits, keep, record_answer, recorded_answer};
 use da_fields::{Answer, Why};
+use da_lines::line;
 use da_play::Input;
-use da_request::{Stage, row};
+use da_request::Stage;
 use da_settings::Settings;
 use da_tables::{InputEffect, Tables, add_query, first_waiting, is_running_in};
 use std::alloc::{AllocError, Global};
 
-// ---- part one of an entry: the replies that are due are given
+// ---- part two of an entry: the input has its own effect
 
 #[tactic(auto, unfolding(da_play::specs::History::after_input))]
 pub(crate) fn apply_input(
@@ -86,7 +86,7 @@ fn follow_stage(
 ) -> Result<(), AllocError>
     ensures { OnOk result (tables.new ≡ after_stage settings.now moment number tables.old) }
 {
-    let Some(request) = row(tables.requests.all(), number) else {
+    let Some(request) = tables.request(number) else {
         return Ok(());
     };
     let stage = request.stage(alloc, settings)?;
@@ -130,7 +130,7 @@ fn keep_answer(
 ) -> Result<(), AllocError>
     ensures { OnOk result (tables.new ≡ kept_for settings.now query answer.now (nth tables.old.queries query) tables.old) }
 {
-    let Some(query_row) = row(tables.queries.all(), query) else {
+    let Some(query_row) = tables.query(query) else {
         return Ok(());
     };
     let recorded = recorded_answer(query_row.question.kind, answer.copy(alloc)?);

@@ -11,14 +11,13 @@ ghost use Rattle.da_play.specs.Steps.{Steps};
 ghost use Rattle.da_tables.specs.Queries.{query_with as words_query_with};
 ghost use Rattle.da_tables.specs.Tables.{with_due_replied};
 
-use crate::history::apply_input;
 use crate::effects::{apply_entry, due_lines, own_lines};
+use crate::history::apply_input;
 use crate::refusals::input_refusal;
 use crate::replay::replay;
 use da_answers::{database_count, hits_from};
 use da_fields::Query;
 use da_play::{Effects, Entry, Input, Outputs, Refused, Sent};
-use da_request::row;
 use da_settings::{Goal, Settings};
 use da_tables::{Numbers, Tables, query_with};
 use std::alloc::{AllocError, Global};
@@ -50,7 +49,7 @@ fn hits_of(
     let Some(number) = effect.continued else {
         return Ok(Vec::new(alloc));
     };
-    match row(ahead.requests.all(), number) {
+    match ahead.request(number) {
         Some(request) => hits_from(
             alloc,
             settings,
@@ -73,7 +72,7 @@ fn query_of(
     let Some(number) = handed_out else {
         return Ok(None);
     };
-    match row(tables.queries.all(), number) {
+    match tables.query(number) {
         Some(query_row) => Ok(Some(query_with(alloc, number, query_row)?)),
         None => Ok(None),
     }
@@ -150,17 +149,17 @@ fn next_of(
     if settings.history_entries <= entries.len() as u64 {
         return Err(Refused::HistoryFull);
     }
-    let Ok(course) = replay(alloc, settings, entries) else {
+    let Ok(replayed) = replay(alloc, settings, entries) else {
         return Err(Refused::NoMemory);
     };
-    if course.left == 0 {
+    if replayed.left == 0 {
         return Err(Refused::HistoryFull);
     }
-    if let Some(refused) = input_refusal(settings, &course.tables, moment, &input) {
+    if let Some(refused) = input_refusal(settings, &replayed.tables, moment, &input) {
         return Err(refused);
     }
     let number = entries.len() as u64 + 1;
-    match enter(alloc, settings, course.tables, number, moment, input) {
+    match enter(alloc, settings, replayed.tables, number, moment, input) {
         Ok(entered) => Ok(entered),
         Err(_) => Err(Refused::NoMemory),
     }

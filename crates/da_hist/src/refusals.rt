@@ -8,7 +8,6 @@ ghost use Rattle.da_play.specs.Play.{late_refusal, unless, input_refusal};
 ghost use Rattle.da_play.specs.declared.input.Input.TheVariants.{Opened};
 
 use da_play::{Input, Refused};
-use da_request::row;
 use da_settings::Settings;
 use da_tables::{Tables, first_waiting, is_running_in};
 
@@ -16,7 +15,7 @@ use da_tables::{Tables, first_waiting, is_running_in};
 fn moment_of_lateness(settings: &Settings, tables: &Tables, query: u32) -> Option<u64>
     ensures { result ≡ late_from settings.now tables.now query }
 {
-    let query_row = row(tables.queries.all(), query)?;
+    let query_row = tables.query(query)?;
     let taken = query_row.taken?;
     Some(taken.saturating_add(settings.query_limit))
 }

@@ -5,13 +5,13 @@ use Rattle.std.proofs.lemmas.Option.{none-some, same_Some}
 use Rattle.da_invariants.proofs.AsksNew.{asks_new}
 use Rattle.da_tables.proofs.Cases.{by_test, and_second, not_true}
 use Rattle.da_play.proofs.EntryInduction.{ContinuedUndecided}
-use Rattle.da_play.proofs.EntryParts.{HeardParts, MovedParts, IsSound, sound_heard, moved_gives}
+use Rattle.da_play.proofs.EntryParts.{InputParts, ContinuedParts, IsSound, sound_input, continued_gives}
 use Rattle.da_invariants.proofs.Keys.{keys_equal}
 use Rattle.da_invariants.proofs.KeysLaw.{newest_has}
 use Rattle.da_invariants.proofs.KnownHits.{usable_known, known_stays}
 use Rattle.da_invariants.proofs.OpenQueries.{AllAsked, history_asked, due_all_asked, nowhere}
 use Rattle.da_tables.proofs.Rows.{of_changed, of_appended, of_mapped, passing, nth-changed}
-use Rattle.da_invariants.proofs.Standing.{heard_stands, moved_stands, due_stand, tables_later, all_same}
+use Rattle.da_invariants.proofs.Standing.{input_stands, continued_stands, due_stand, tables_later, all_same}
 use Rattle.da_base.specs.Words.{nth, changed_nth, count_where, option_or_else}
 use Rattle.da_keys.specs.Keys.{same_key}
 use Rattle.da_keys.specs.declared.key.Key.{Key}
@@ -120,8 +120,8 @@ module _ (settings : Settings) (moment : ℕ) (before : Tables) (entered : Input
       AreDistinct r.answers → AreDistinct (with_late_answer a.question.db answer r).answers
   late_is_new query a answer is run r at d = by_test (λ (x : Request). AreDistinct x.answers) (is_some r.decided) r (with_answer a.question.db answer r) (λ e. d) (λ e. answer_is_new query a answer is run r at d)
 
-  heard_distinct : HeardParts settings moment before entered (λ tables m. AllDistinct tables.requests)
-  heard_distinct = record {
+  input_distinct : InputParts settings moment before entered (λ tables m. AllDistinct tables.requests)
+  input_distinct = record {
     opens = λ kind random l p. p;
     tells = λ conn change h p. p;
     ends = λ conn e p. end_distinct conn p;
@@ -136,26 +136,26 @@ module _ (settings : Settings) (moment : ℕ) (before : Tables) (entered : Input
   -- ---- hits
 
   module _ (origin hs : Tables) (same : TablesStand origin hs) where
-    -- the request that moves has these hits still to come
+    -- the request that continues has these hits still to come
     record HasToCome (tables : Tables) (n : ℕ) (done : List ℕ) : Type 0 where
       pub request : Request
       pub is_there : nth tables.requests n ≡ Some request
       pub to_come : (rest : List ℕ) → done ++ rest ≡ hits → AreHits settings moment origin request rest
 
-    abbrev MoverToCome : Tables → Option ℕ → List ℕ → Type 0
-    MoverToCome tables None done = Unit {0}
-    MoverToCome tables (Some n) done = HasToCome tables n done
+    abbrev ContinuedToCome : Tables → Option ℕ → List ℕ → Type 0
+    ContinuedToCome tables None done = Unit {0}
+    ContinuedToCome tables (Some n) done = HasToCome tables n done
 
     record DistinctNow (these : Tables) (m : Option ℕ) (done : List ℕ) : Type 0 where
       pub tables : TablesStand origin these
       pub all : AllDistinct these.requests
-      pub continued : MoverToCome these m done
+      pub continued : ContinuedToCome these m done
 
     abbrev all_distinct : Tables → Option ℕ → Type 0
     all_distinct tables m = AllDistinct tables.requests
 
-    moved_stand : MovedParts settings moment before entered hits (λ tables m done. TablesStand origin tables) (λ tables m. TablesStand origin tables)
-    moved_stand = moved_stands settings moment origin before entered hits
+    continued_stand : ContinuedParts settings moment before entered hits (λ tables m done. TablesStand origin tables) (λ tables m. TablesStand origin tables)
+    continued_stand = continued_stands settings moment origin before entered hits
 
     -- the hit is the answer of what is asked
     hit_is_asked : (tables : Tables) (number : ℕ) (a : QueryRow) (p : Answer × ℕ) → nth tables.queries number ≡ Some a → a.answer ≡ Some p → TablesStand origin tables → (r : Request) (q : Question) → IsUsable settings moment origin r q number →
@@ -222,9 +222,9 @@ module _ (settings : Settings) (moment : ℕ) (before : Tables) (entered : Input
             × AreHits settings moment origin (with_hit origin question number q.continued.request) rest → ⊥
         go (question, asks, u, further) = known_stays origin tables number q.tables (usable_known settings moment origin q.continued.request question number u) e
 
-    moved_distinct : MovedParts settings moment before entered hits DistinctNow all_distinct
-    moved_distinct = record {
-      hit = λ tables continued number done rest a p is e w u q. hit_distinct tables continued number done rest a p is e w (moved_stand.hit tables continued number done rest a p is e w u q.tables) q;
+    continued_distinct : ContinuedParts settings moment before entered hits DistinctNow all_distinct
+    continued_distinct = record {
+      hit = λ tables continued number done rest a p is e w u q. hit_distinct tables continued number done rest a p is e w (continued_stand.hit tables continued number done rest a p is e w u q.tables) q;
       misses = λ tables continued number done rest e w q. absurd (missed tables continued number done rest e w q);
       rests = λ tables q. q.all;
       awaits = λ tables n r text is u e q. q.all;
@@ -251,15 +251,15 @@ entry_distinct settings tables e asked hits p =
     let h : AfterInput = after_input settings e.moment e.input before in
     let all : AllAsked settings before.requests before.queries = due_all_asked settings e.moment tables asked in
     let s : IsSound settings e.moment before e.input (λ x m. TablesStand before x) _ h =
-    sound_heard settings e.moment before e.input (λ x m. TablesStand before x) (heard_stands settings e.moment before before e.input e.hits) e.input refl (all_same before) in
+    sound_input settings e.moment before e.input (λ x m. TablesStand before x) (input_stands settings e.moment before before e.input e.hits) e.input refl (all_same before) in
     let t : TablesStand tables h.tables = tables_later tables before h.tables (due_stand settings e.moment tables) s.fact in
     let d : IsSound settings e.moment before e.input (λ x m. AllDistinct x.requests) _ h =
-    sound_heard settings e.moment before e.input (λ x m. AllDistinct x.requests) (heard_distinct settings e.moment before e.input e.hits all) e.input refl (due_distinct settings e.moment tables p) in
-    moved_gives settings e.moment before e.input e.hits _ _ (moved_distinct settings e.moment before e.input e.hits all tables h.tables t) h
+    sound_input settings e.moment before e.input (λ x m. AllDistinct x.requests) (input_distinct settings e.moment before e.input e.hits all) e.input refl (due_distinct settings e.moment tables p) in
+    continued_gives settings e.moment before e.input e.hits _ _ (continued_distinct settings e.moment before e.input e.hits all tables h.tables t) h
     (record { tables = t; all = d.fact; continued = to_come before h all t h.continued s.continued hits }) s.continued
   where
     to_come : (before : Tables) (h : AfterInput) (all : AllAsked settings before.requests before.queries) (t : TablesStand tables h.tables) (m : Option ℕ) → ContinuedUndecided h.tables.requests m →
-        ContinuedHits settings e.moment tables (option_and_then (nth h.tables.requests) m) e.hits → MoverToCome settings e.moment before e.input e.hits all tables h.tables t h.tables m []
+        ContinuedHits settings e.moment tables (option_and_then (nth h.tables.requests) m) e.hits → ContinuedToCome settings e.moment before e.input e.hits all tables h.tables t h.tables m []
     to_come before h all t None u x = tt
     to_come before h all t (Some n) u x = go (passing is_undecided (nth h.tables.requests n) u)
       where

@@ -3,10 +3,10 @@ use Rattle.std.proofs.Common.{◌≡◌, ◌⊎◌, inl, inr, refl, sym, ◌∙�
 use Rattle.std.proofs.lemmas.Bool.Decides.{nat_tests}
 use Rattle.std.proofs.lemmas.Option.{none-some, same_Some}
 use Rattle.da_tables.proofs.Cases.{by_test}
-use Rattle.da_play.proofs.EntryParts.{HeardParts, MovedParts, IsSound, sound_heard, moved_gives, with_kept}
+use Rattle.da_play.proofs.EntryParts.{InputParts, ContinuedParts, IsSound, sound_input, continued_gives, with_kept}
 use Rattle.da_invariants.proofs.Keys.{keys_equal, key_is, not_without, without_has, first_distinct, without_distinct, first_has, has_first, first_fits, without_fits, take_fits, take_count, take_has}
 use Rattle.da_tables.proofs.Rows.{passing, nth-changed}
-use Rattle.da_invariants.proofs.Standing.{heard_stands, moved_stands, due_stand, tables_later, all_same}
+use Rattle.da_invariants.proofs.Standing.{input_stands, continued_stands, due_stand, tables_later, all_same}
 use Rattle.da_base.specs.Words.{nth, changed_nth, passes_option, count_where}
 use Rattle.da_keys.specs.Keys.{same_key, has_key, without_key, key_first, with_key}
 use Rattle.da_keys.specs.declared.key.Key.{Key}
@@ -126,9 +126,9 @@ hits_cached : (settings : Settings) (moment : ℕ) (tables : Tables) (r : Reques
 hits_cached settings moment tables r [] h = tt
 hits_cached settings moment tables r (n ∷ ns) h = (usable_cached settings moment tables r h.0 n h.2, hits_cached settings moment tables (with_hit tables h.0 n r) ns h.3)
 
-mover_cached : (settings : Settings) (moment : ℕ) (tables : Tables) (o : Option Request) (ns : List ℕ) → ContinuedHits settings moment tables o ns → AllCached tables ns
-mover_cached settings moment tables None ns h = subst (AllCached tables) (sym h) tt
-mover_cached settings moment tables (Some r) ns h = hits_cached settings moment tables r ns h
+continued_cached : (settings : Settings) (moment : ℕ) (tables : Tables) (o : Option Request) (ns : List ℕ) → ContinuedHits settings moment tables o ns → AllCached tables ns
+continued_cached settings moment tables None ns h = subst (AllCached tables) (sym h) tt
+continued_cached settings moment tables (Some r) ns h = hits_cached settings moment tables r ns h
 
 one_cached : (tables : Tables) (done rest : List ℕ) (n : ℕ) → AllCached tables (done ++ n ∷ rest) → IsCached tables n
 one_cached tables [] rest n all = all.0
@@ -146,7 +146,7 @@ cached_later tables later h same (n ∷ ns) all = (go all.0, cached_later tables
 
 -- ---- what an input does to the cache, and what it records
 
--- the keys and the recordings are as they were
+-- the keys and the cacheable answers are as they were
 record SameCache (tables later : Tables) : Type 0 where
   pub cacheable : later.cacheable ≡ tables.cacheable
   pub keys : later.keys ≡ tables.keys
@@ -159,8 +159,8 @@ module _ (settings : Settings) (moment : ℕ) (before : Tables) (entered : Input
   unfolding with_end
   end_cache conn = record { cacheable = refl; keys = refl }
 
-  heard_cache : HeardParts settings moment before entered (λ tables m. SameCache before tables)
-  heard_cache = record {
+  input_cache : InputParts settings moment before entered (λ tables m. SameCache before tables)
+  input_cache = record {
     opens = λ kind random l p. record { cacheable = refl; keys = refl };
     tells = λ conn change h p. record { cacheable = refl; keys = refl };
     ends = λ conn e p. end_cache conn;
@@ -247,8 +247,8 @@ module _ (settings : Settings) (moment : ℕ) (before hs : Tables) (entered : In
       go : (d : QueryRow) × (nth tables.queries n ≡ Some d) × QueryStands b d → has_key (key_of a.question) tables.keys ≡ true
       go (d, x, s) = subst (λ (q : Question). has_key (key_of q) tables.keys ≡ true) (sym s.question ∙ ap (λ (y : QueryRow). y.question) (same_Some d a (sym x ∙ is))) (c.all (key_of b.question) e)
 
-  moved_stand : MovedParts settings moment before entered hits (λ tables m done. TablesStand hs tables) (λ tables m. TablesStand hs tables)
-  moved_stand = moved_stands settings moment hs before entered hits
+  continued_stand : ContinuedParts settings moment before entered hits (λ tables m done. TablesStand hs tables) (λ tables m. TablesStand hs tables)
+  continued_stand = continued_stands settings moment hs before entered hits
 
   hit_cache : (tables : Tables) (continued n : ℕ) (done rest : List ℕ) (a : QueryRow) (p : Answer × ℕ) → nth tables.queries n ≡ Some a → TablesStand hs (hit_with settings continued n a p.0 tables) →
       done ++ n ∷ rest ≡ hits → CacheNow tables → CacheNow (hit_with settings continued n a p.0 tables)
@@ -273,8 +273,8 @@ module _ (settings : Settings) (moment : ℕ) (before hs : Tables) (entered : In
     abbrev kept : Tables
     kept = with_kept settings query a.question answer tables
 
-    new_recordings : AllRecorded kept.queries kept.cacheable
-    new_recordings = ((a, is, ap is_some recorded), f.recorded)
+    new_cacheable : AllRecorded kept.queries kept.cacheable
+    new_cacheable = ((a, is, ap is_some recorded), f.recorded)
 
     old_answer : (k : Key) → (same_key k (key_of a.question) ≡ true → ⊥) → has_key k tables.keys ≡ true → HasAnswer settings kept k
     old_answer k other e =
@@ -307,8 +307,8 @@ module _ (settings : Settings) (moment : ℕ) (before hs : Tables) (entered : In
       has_ttl = l;
     }
 
-    zero_life : length (without_key (key_of a.question) tables.keys) ≤ settings.cache_size
-    zero_life = without_fits (key_of a.question) tables.keys settings.cache_size f.keys.fit
+    zero_ttl : length (without_key (key_of a.question) tables.keys) ≤ settings.cache_size
+    zero_ttl = without_fits (key_of a.question) tables.keys settings.cache_size f.keys.fit
 
     is_apart : (k : Key) → has_key k (without_key (key_of a.question) tables.keys) ≡ true → same_key k (key_of a.question) ≡ true → ⊥
     is_apart k e d = true≢false (sym (subst (λ (x : Key). has_key x (without_key (key_of a.question) tables.keys) ≡ true) (keys_equal k (key_of a.question) d) e) ∙ not_without (key_of a.question) tables.keys)
@@ -321,7 +321,7 @@ module _ (settings : Settings) (moment : ℕ) (before hs : Tables) (entered : In
 
     taken_out : AreKept (without_key (key_of a.question) tables.keys)
     taken_out = record {
-      fit = zero_life;
+      fit = zero_ttl;
       distinct = λ k. without_distinct k (key_of a.question) tables.keys (f.keys.are_distinct k);
       answers = λ k e. old_answer k (is_apart k e) (without_has k (key_of a.question) tables.keys e);
     }
@@ -344,7 +344,7 @@ module _ (settings : Settings) (moment : ℕ) (before hs : Tables) (entered : In
     kept_fit : IsFit settings kept
     kept_fit =
         let ks : AreKept (with_key settings.cache_size (ttl_of settings answer) (key_of a.question) tables.keys) = by_test AreKept (ttl_of settings answer == 0) _ _ (λ e. taken_out) (λ e. put_first (not_zero (ttl_of settings answer) e)) in
-        record { keys = record { fit = ks.fit; are_distinct = ks.distinct; have_answers = ks.answers }; recorded = new_recordings }
+        record { keys = record { fit = ks.fit; are_distinct = ks.distinct; have_answers = ks.answers }; recorded = new_cacheable }
       where
         not_zero : (n : ℕ) → (n == 0) ≡ false → 0 < n
         not_zero n e = grind (arith, nat_tests, e)
@@ -370,14 +370,14 @@ module _ (settings : Settings) (moment : ℕ) (before hs : Tables) (entered : In
                     fit = kept_fit tables query a (recorded_answer a.question.kind given) is recorded r.fit;
                   }
 
-  moved_cache : MovedParts settings moment before entered hits cache_now fit_now
-  moved_cache = record {
-    hit = λ tables continued number done rest a p is e w u c. hit_cache tables continued number done rest a p is (moved_stand.hit tables continued number done rest a p is e w u c.tables) w c;
+  continued_cache : ContinuedParts settings moment before entered hits cache_now fit_now
+  continued_cache = record {
+    hit = λ tables continued number done rest a p is e w u c. hit_cache tables continued number done rest a p is (continued_stand.hit tables continued number done rest a p is e w u c.tables) w c;
     misses = λ tables continued number done rest e w c. c;
     rests = λ tables c. fit_from tables tables c c.tables refl refl;
     awaits = λ tables n r text is u e c. fit_from tables tables c c.tables refl refl;
-    asks = λ tables n r question is u e c. fit_from tables _ c (moved_stand.asks tables n r question is u e c.tables) refl refl;
-    decides = λ tables n r d is u e c. fit_from tables _ c (moved_stand.decides tables n r d is u e c.tables) refl refl;
+    asks = λ tables n r question is u e c. fit_from tables _ c (continued_stand.asks tables n r question is u e c.tables) refl refl;
+    decides = λ tables n r d is u e c. fit_from tables _ c (continued_stand.decides tables n r d is u e c.tables) refl refl;
     kept = λ tables m query given a l run is k r. kept_now tables query given a l run is r;
   }
 
@@ -391,12 +391,12 @@ entry_fit settings tables e hits f =
     let before : Tables = with_due_replied settings e.moment tables in
     let h : AfterInput = after_input settings e.moment e.input before in
     let s : IsSound settings e.moment before e.input (λ x m. TablesStand before x) _ h =
-    sound_heard settings e.moment before e.input (λ x m. TablesStand before x) (heard_stands settings e.moment before before e.input e.hits) e.input refl (all_same before) in
+    sound_input settings e.moment before e.input (λ x m. TablesStand before x) (input_stands settings e.moment before before e.input e.hits) e.input refl (all_same before) in
     let c : IsSound settings e.moment before e.input (λ x m. SameCache before x) _ h =
-    sound_heard settings e.moment before e.input (λ x m. SameCache before x) (heard_cache settings e.moment before e.input) e.input refl (untouched settings e.moment before e.input) in
+    sound_input settings e.moment before e.input (λ x m. SameCache before x) (input_cache settings e.moment before e.input) e.input refl (untouched settings e.moment before e.input) in
     let t : TablesStand tables h.tables = tables_later tables before h.tables (due_stand settings e.moment tables) s.fact in
     let fit : IsFit settings h.tables = same_fit settings tables h.tables t.queries c.fact.cacheable c.fact.keys f in
-    let cached : AllCached h.tables e.hits = cached_later tables h.tables t.queries c.fact.keys e.hits (mover_cached settings e.moment tables _ e.hits hits) in
+    let cached : AllCached h.tables e.hits = cached_later tables h.tables t.queries c.fact.keys e.hits (continued_cached settings e.moment tables _ e.hits hits) in
     let now : CacheNow settings e.moment before h.tables e.input e.hits fit cached _ h.tables = record {
       tables = all_same h.tables;
       cacheable = refl;
@@ -405,8 +405,8 @@ entry_fit settings tables e hits f =
       within = λ k x. x;
       all = λ k x. x;
     } in
-    (moved_gives settings e.moment before e.input e.hits _ _
-    (moved_cache settings e.moment before h.tables e.input e.hits fit cached
+    (continued_gives settings e.moment before e.input e.hits _ _
+    (continued_cache settings e.moment before h.tables e.input e.hits fit cached
     (λ query given a l is run. subst (λ (i : Input). IsRecorded (after_input settings e.moment i before).tables.queries query a (recorded_answer a.question.kind given) e.moment) (sym l)
     (told_is_recorded settings e.moment query given before a is run (Answered query given) (refl, refl))))
     h now s.continued).fit

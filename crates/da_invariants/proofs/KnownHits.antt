@@ -32,9 +32,9 @@ hits_known : (settings : Settings) (moment : ℕ) (tables : Tables) (r : Request
 hits_known settings moment tables r [] h = tt
 hits_known settings moment tables r (n ∷ ns) h = (usable_known settings moment tables r h.0 n h.2, hits_known settings moment tables (with_hit tables h.0 n r) ns h.3)
 
-pub mover_known : (settings : Settings) (moment : ℕ) (tables : Tables) (o : Option Request) (ns : List ℕ) → ContinuedHits settings moment tables o ns → AllKnown tables ns
-mover_known settings moment tables None ns h = subst (AllKnown tables) (sym h) tt
-mover_known settings moment tables (Some r) ns h = hits_known settings moment tables r ns h
+pub continued_known : (settings : Settings) (moment : ℕ) (tables : Tables) (o : Option Request) (ns : List ℕ) → ContinuedHits settings moment tables o ns → AllKnown tables ns
+continued_known settings moment tables None ns h = subst (AllKnown tables) (sym h) tt
+continued_known settings moment tables (Some r) ns h = hits_known settings moment tables r ns h
 
 pub one_known : (tables : Tables) (done rest : List ℕ) (n : ℕ) → AllKnown tables (done ++ n ∷ rest) → IsKnown tables n
 one_known tables [] rest n all = all.0

@@ -2,7 +2,7 @@
 use Rattle.std.proofs.Common.{◌≡◌, ◌⊎◌, inl, inr, refl, sym, ◌∙◌, ap, subst, Option, Some, None, List, [], ◌∷◌, ◌++◌, ℕ, zero, suc, Bool, true, false, map, length, is_some, not, ◌&&◌, true≢false}
 use Rattle.std.proofs.lemmas.Option.{none-some, same_Some}
 use Rattle.da_tables.proofs.Cases.{by_test, and_first, and_second, not_true}
-use Rattle.da_play.proofs.EntryParts.{HeardParts, MovedParts, an_entry_gives}
+use Rattle.da_play.proofs.EntryParts.{InputParts, ContinuedParts, an_entry_gives}
 use Rattle.da_tables.proofs.Rows.{of_changed, of_appended, nth-past, nth-unchanged}
 use Rattle.da_invariants.proofs.Standing.{RowsStand, longer_rows, mapped_rows, changed_rows, undecided_is}
 use Rattle.da_base.specs.Words.{Bytes, nth, changed_nth}
@@ -269,8 +269,8 @@ module _ (settings : Settings) (moment : ℕ) (before : Tables) (entered : Input
     answered_asked f = elsewhere settings f before.requests a.request (changed_nth change before.queries query)
         (changed_queries settings change (answered_keeps settings moment (nth before.requests a.request) answer) before.requests before.queries query p) none_left
 
-  pub heard_asked : HeardParts settings moment before entered (λ tables m. AreAsked tables m)
-  heard_asked = record {
+  pub input_asked : InputParts settings moment before entered (λ tables m. AreAsked tables m)
+  input_asked = record {
     opens = λ kind random l p. quiet _ p.all;
     tells = λ conn change h p. quiet _ p.all;
     ends = λ conn e p. quiet _ (end_asked conn p.all);
@@ -296,8 +296,8 @@ module _ (settings : Settings) (moment : ℕ) (before : Tables) (entered : Input
         none = none;
       }
 
-  pub moved_asked : MovedParts settings moment before entered hits asked_now all_asked
-  moved_asked = record {
+  pub continued_asked : ContinuedParts settings moment before entered hits asked_now all_asked
+  continued_asked = record {
     hit = λ tables continued number done rest a p is e w u q. hit_asked tables continued number a p.0 q;
     misses = λ tables continued number done rest e w q. q;
     rests = λ tables q. q.all;
@@ -316,7 +316,7 @@ pub entry_asked : (settings : Settings) (tables : Tables) (e : Entry) → AllAsk
 entry_asked settings tables e p =
     let before : Tables = with_due_replied settings e.moment tables in
     an_entry_gives settings tables e (asked_now settings e.moment before e.input e.hits) (all_asked settings e.moment before e.input e.hits)
-    (heard_asked settings e.moment before e.input e.hits) (moved_asked settings e.moment before e.input e.hits) (record { all = due_all_asked settings e.moment tables p; none = tt })
+    (input_asked settings e.moment before e.input e.hits) (continued_asked settings e.moment before e.input e.hits) (record { all = due_all_asked settings e.moment tables p; none = tt })
 
 pub nowhere : {A : Type 0} (k : ℕ) (a : A) → nth [] k ≡ Some a → ⊥
 nowhere zero a e = none-some a e

@@ -1,10 +1,10 @@
--- What is settled stays, whatever comes later.
+-- What is done stays, whatever comes later.
 use Rattle.std.proofs.Common.{◌≡◌, ◌⊎◌, inl, inr, refl, sym, ◌∙◌, ap, subst, Option, Some, None, List, [], ◌∷◌, ◌++◌, ℕ, zero, suc, Bool, true, false, map, slice_get, is_some, not, ◌&&◌, ◌||◌, option_map, true≢false}
 use Rattle.std.specs.List.{list_any}
 use Rattle.std.proofs.lemmas.Option.{none-some, same_Some}
 use Rattle.da_tables.proofs.Cases.{by_test, and_first, and_second, not_true}
 use Rattle.da_play.proofs.EntryInduction.{IsUndecidedAt}
-use Rattle.da_play.proofs.EntryParts.{HeardParts, MovedParts, IsSameConnection, IsSound, sound_heard, moved_gives, an_entry_gives, recorded}
+use Rattle.da_play.proofs.EntryParts.{InputParts, ContinuedParts, IsSameConnection, IsSound, sound_input, continued_gives, an_entry_gives, recorded}
 use Rattle.da_tables.proofs.Rows.{same_or_not, nth-changed, nth-unchanged, nth-map, nth-before, first_passes}
 use Rattle.da_base.specs.Words.{Bytes, nth, changed_nth, passes_option}
 use Rattle.da_fields.specs.Answers.{Answers}
@@ -118,9 +118,9 @@ not_there (Some x) m e d = true≢false e
 pub undecided_is : (r : Request) → is_undecided r ≡ true → (is_some r.decided ≡ false) × (is_some r.replied ≡ false)
 undecided_is r u = (not_true (is_some r.decided) (and_second (is_pending r) _ u), not_true (is_some r.replied) (and_second (not r.is_cancelled) _ (and_first (is_pending r) _ u)))
 
-hears_more : (r s : Request) → is_some r.decided ≡ false → s.conn ≡ r.conn → s.id ≡ r.id → s.random ≡ r.random → s.start ≡ r.start → ((n : ℕ) → is_granted_for n s.body ≡ is_granted_for n r.body) →
+reads_more : (r s : Request) → is_some r.decided ≡ false → s.conn ≡ r.conn → s.id ≡ r.id → s.random ≡ r.random → s.start ≡ r.start → ((n : ℕ) → is_granted_for n s.body ≡ is_granted_for n r.body) →
     s.is_cancelled ≡ r.is_cancelled → s.replied ≡ r.replied → RequestStands r s
-hears_more r s u c i x t g k p = record {
+reads_more r s u c i x t g k p = record {
   conn = c;
   id = i;
   random = x;
@@ -134,14 +134,14 @@ hears_more r s u c i x t g k p = record {
 }
 
 text_stands : (text : Bytes) (r : Request) → is_undecided r ≡ true → RequestStands r (with_text text r)
-text_stands text r u = hears_more r (with_text text r) (undecided_is r u).0 refl refl refl refl (λ n. same_grant n r.body) refl refl
+text_stands text r u = reads_more r (with_text text r) (undecided_is r u).0 refl refl refl refl (λ n. same_grant n r.body) refl refl
   where
     same_grant : (n : ℕ) (b : Body) → is_granted_for n (body_with_text text b) ≡ is_granted_for n b
     same_grant n (Authenticates mech params resp texts) = refl
     same_grant n (LooksUp grant) = refl
 
 answer_stands : (db : ℕ) (answer : Answer) (r : Request) → is_some r.decided ≡ false → RequestStands r (with_answer db answer r)
-answer_stands db answer r u = hears_more r (with_answer db answer r) u refl refl refl refl (λ n. refl) refl refl
+answer_stands db answer r u = reads_more r (with_answer db answer r) u refl refl refl refl (λ n. refl) refl refl
 
 late_stands : (db : ℕ) (answer : Answer) (r : Request) → RequestStands r (with_late_answer db answer r)
 late_stands db answer r = by_test (RequestStands r) (is_some r.decided) r (with_answer db answer r) (λ e. same_request r) (λ e. answer_stands db answer r e)
@@ -166,7 +166,7 @@ reply_stands settings moment r = by_test (RequestStands r) (is_due settings mome
 decision_stands : (settings : Settings) (moment : ℕ) (r : Request) → is_undecided r ≡ true → RequestStands r (with_decision settings moment r)
 decision_stands settings moment r u =
     request_later r (record r { decided = Some moment }) (with_decision settings moment r)
-    (hears_more r (record r { decided = Some moment }) (undecided_is r u).0 refl refl refl refl (λ n. refl) refl refl)
+    (reads_more r (record r { decided = Some moment }) (undecided_is r u).0 refl refl refl refl (λ n. refl) refl refl)
     (reply_stands settings moment (record r { decided = Some moment }))
 
 -- ---- queries
@@ -249,8 +249,8 @@ module _ (settings : Settings) (moment : ℕ) (origin before : Tables) (entered 
       (with_connections origin before p (changed_nth closed before.connections conn) (changed_connections closed closed_stands before.connections conn))
       (map (as_cancelled_of conn) before.requests) (mapped_rows RequestStands same_request request_later (as_cancelled_of conn) (cancelled_of_stands conn) before.requests)
 
-  pub heard_stands : HeardParts settings moment before entered P
-  heard_stands = record {
+  pub input_stands : InputParts settings moment before entered P
+  input_stands = record {
     opens = λ kind random l p. with_connections origin before p _ (longer_rows ConnectionStands same_connection connection_later before.connections _);
     tells = λ conn change h p. with_connections origin before p _ (changed_connections change (λ c. told_stands c (change c) (h c)) before.connections conn);
     ends = λ conn e p. end_stands conn p;
@@ -276,8 +276,8 @@ module _ (settings : Settings) (moment : ℕ) (origin before : Tables) (entered 
       with_requests origin _ queries _
       (changed_requests (with_answer a.question.db answer) tables.requests continued (λ r e. answer_stands a.question.db answer r (undecided_is r (of_undecided tables.requests continued r u e)).0))
 
-  pub moved_stands : MovedParts settings moment before entered hits Q P
-  moved_stands = record {
+  pub continued_stands : ContinuedParts settings moment before entered hits Q P
+  continued_stands = record {
     hit = λ tables continued number done rest a p is e w u q. hit_stands tables continued number a p.0 u q;
     misses = λ tables continued number done rest e w q. q;
     rests = λ tables q. q;
@@ -293,12 +293,12 @@ unfolding with_due_replied
 due_stand settings moment tables = with_requests tables tables (all_same tables) (map (replied_if_due settings moment) tables.requests)
     (mapped_rows RequestStands same_request request_later (replied_if_due settings moment) (reply_stands settings moment) tables.requests)
 
--- an entry lets stand what is settled
+-- an entry lets stand what is done
 pub entry_stands : (settings : Settings) (tables : Tables) (e : Entry) → TablesStand tables (after settings tables e)
 entry_stands settings tables e =
     let before : Tables = with_due_replied settings e.moment tables in
     an_entry_gives settings tables e (Q settings e.moment tables before e.input e.hits) (P settings e.moment tables before e.input e.hits)
-    (heard_stands settings e.moment tables before e.input e.hits) (moved_stands settings e.moment tables before e.input e.hits) (due_stand settings e.moment tables)
+    (input_stands settings e.moment tables before e.input e.hits) (continued_stands settings e.moment tables before e.input e.hits) (due_stand settings e.moment tables)
 
 -- what follows an input's own effect lets stand what that left
 pub rest_stands : (settings : Settings) (tables : Tables) (e : Entry) → TablesStand (after_input settings e.moment e.input (with_due_replied settings e.moment tables)).tables (after settings tables e)
@@ -307,8 +307,8 @@ rest_stands settings tables e =
     let before : Tables = with_due_replied settings e.moment tables in
     let h : AfterInput = after_input settings e.moment e.input before in
     let s : IsSound settings e.moment before e.input (λ x m. TablesStand before x) _ h =
-    sound_heard settings e.moment before e.input (λ x m. TablesStand before x) (heard_stands settings e.moment before before e.input e.hits) e.input refl (all_same before) in
-    moved_gives settings e.moment before e.input e.hits (λ x m done. TablesStand h.tables x) (λ x m. TablesStand h.tables x) (moved_stands settings e.moment h.tables before e.input e.hits) h (all_same h.tables) s.continued
+    sound_input settings e.moment before e.input (λ x m. TablesStand before x) (input_stands settings e.moment before before e.input e.hits) e.input refl (all_same before) in
+    continued_gives settings e.moment before e.input e.hits (λ x m done. TablesStand h.tables x) (λ x m. TablesStand h.tables x) (continued_stands settings e.moment h.tables before e.input e.hits) h (all_same h.tables) s.continued
 
 pub what_is_done_stands : WhatIsDoneStands
 what_is_done_stands settings [] h = all_same (tables_of settings h)
@@ -353,7 +353,7 @@ used_stays_used settings newer h n used = go (some_row (λ q. is_granted_for n q
 
 -- ---- what is decided
 
--- the stage depends on what was heard of the request alone
+-- the stage depends on what the lines say of the request alone
 pub same_stage : (settings : Settings) (r s : Request) → s.random ≡ r.random → s.start ≡ r.start → s.body ≡ r.body → s.answers ≡ r.answers → request_stage settings s ≡ request_stage settings r
 unfolding request_stage
 same_stage settings r s x t b a =

@@ -13,7 +13,7 @@ use Rattle.da_settings.specs.declared.settings.Settings.{Settings}
 use Rattle.da_tables.specs.declared.queries.QueryRow.{QueryRow}
 use Rattle.da_tables.specs.declared.tables.Tables.{Tables}
 
--- the newest answer of a key is there, and its life isn't 0
+-- the newest answer of a key is there, and its ttl isn't 0
 pub record HasAnswer (settings : Settings) (tables : Tables) (k : Key) : Type 0 where
   pub number : ℕ
   pub is_newest : newest tables k ≡ Some number

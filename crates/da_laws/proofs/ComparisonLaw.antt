@@ -118,12 +118,12 @@ comparisons_are_of_passwords settings r q answer c e = go (is_authentication r.b
                 option_and_then (λ db. password_comparison db login q.checked answer) (nth settings.passdb q.db) ≡ Some (matches c.0 c.1)
             of_db (db, at, y) = ap (option_and_then (λ d. password_comparison d login q.checked answer)) at ∙ check_is_test db login q.checked answer c y
 
--- ---- the check of an entry
+-- ---- what an entry compares
 
 module _ (settings : Settings) (moment : ℕ) (tables : Tables) (input : Input) (c : Compared) where
   compared : (r : Request) (q : Question) (answer : Answer) → use_compares settings r q answer ≡ Some c → IsRecordedAnswer tables input q answer ⊎ (known_answer settings moment tables q ≡ Some answer) →
       IsCompared settings moment tables input c
-  compared r q answer e known = record { request = r; question = q; answer = answer; is_check = e; is_test = comparisons_are_of_passwords settings r q answer c e; is_known = known }
+  compared r q answer e known = record { request = r; question = q; answer = answer; is_compared = e; is_comparison = comparisons_are_of_passwords settings r q answer c e; is_known = known }
 
   either : (a b : Option Compared) → first_of_two a b ≡ Some c → (a ≡ Some c) ⊎ (b ≡ Some c)
   either None b e = inr e
@@ -179,17 +179,17 @@ module _ (settings : Settings) (moment : ℕ) (tables : Tables) (input : Input) 
     from_own (Late query) l e = absurd (none-some c e)
     from_own Tick l e = absurd (none-some c e)
 
-entry_compares : (settings : Settings) (g : List Entry) (moment : ℕ) (input : Input) (c : Compared) → entry_compares settings g moment input ≡ Some c → IsCompared settings moment (tables_of settings g) input c
+what_entries_compare : (settings : Settings) (g : List Entry) (moment : ℕ) (input : Input) (c : Compared) → entry_compares settings g moment input ≡ Some c → IsCompared settings moment (tables_of settings g) input c
 unfolding entry_compares with_due_replied
-entry_compares settings g moment input c e =
+what_entries_compare settings g moment input c e =
     which (either settings moment (tables_of settings g) input c (own_compares settings (with_due_replied settings moment (tables_of settings g)) input) (compares_after settings moment (tables_of settings g) (after_input settings moment input (with_due_replied settings moment (tables_of settings g)))) e)
   where
     which : (own_compares settings (with_due_replied settings moment (tables_of settings g)) input ≡ Some c) ⊎ (compares_after settings moment (tables_of settings g) (after_input settings moment input (with_due_replied settings moment (tables_of settings g))) ≡ Some c) → IsCompared settings moment (tables_of settings g) input c
     which (inl x) = from_own settings moment (tables_of settings g) input c (with_due_replied settings moment (tables_of settings g)) refl input refl x
-    which (inr x) = of_mover (chained (compares_from (database_count settings) settings moment (tables_of settings g)) (option_and_then (nth (after_input settings moment input (with_due_replied settings moment (tables_of settings g))).tables.requests) (after_input settings moment input (with_due_replied settings moment (tables_of settings g))).continued) c x)
+    which (inr x) = of_continued (chained (compares_from (database_count settings) settings moment (tables_of settings g)) (option_and_then (nth (after_input settings moment input (with_due_replied settings moment (tables_of settings g))).tables.requests) (after_input settings moment input (with_due_replied settings moment (tables_of settings g))).continued) c x)
       where
-        of_mover : (r : Request) × (option_and_then (nth (after_input settings moment input (with_due_replied settings moment (tables_of settings g))).tables.requests) (after_input settings moment input (with_due_replied settings moment (tables_of settings g))).continued ≡ Some r) × (compares_from (database_count settings) settings moment (tables_of settings g) r ≡ Some c) → IsCompared settings moment (tables_of settings g) input c
-        of_mover (r, at, y) = from_chain settings moment (tables_of settings g) input c (database_count settings) r y
+        of_continued : (r : Request) × (option_and_then (nth (after_input settings moment input (with_due_replied settings moment (tables_of settings g))).tables.requests) (after_input settings moment input (with_due_replied settings moment (tables_of settings g))).continued ≡ Some r) × (compares_from (database_count settings) settings moment (tables_of settings g) r ≡ Some c) → IsCompared settings moment (tables_of settings g) input c
+        of_continued (r, at, y) = from_chain settings moment (tables_of settings g) input c (database_count settings) r y
 
 pub hints_are_compared : HintsAreCompared
 unfolding hint
@@ -197,5 +197,5 @@ hints_are_compared settings h m input c e = go (refusal settings h (entry_moment
   where
     go : (o : Option Refused) → refusal settings h (entry_moment h m) input ≡ o → cond (is_none o) (entry_compares settings h (entry_moment h m) input) None ≡ Some c →
         (refusal settings h (entry_moment h m) input ≡ None) × IsCompared settings (entry_moment h m) (tables_of settings h) input c
-    go None d x = (d, entry_compares settings h (entry_moment h m) input c x)
+    go None d x = (d, what_entries_compare settings h (entry_moment h m) input c x)
     go (Some refused) d x = absurd (none-some c x)

@@ -123,7 +123,7 @@ abbrev pub IsUnreplied : List Request → Option ℕ → Type 0
 IsUnreplied rs None = Unit {0}
 IsUnreplied rs (Some n) = replies_at rs n ≡ 0
 
--- what an input does to the requests: they are quiet, at most one is new, and the one that is moved has no reply
+-- what an input does to the requests: they are quiet, at most one is new, and the one that is continued has no reply
 pub record IsFair (before : List Request) (h : AfterInput) : Type 0 where
   pub carries : Carries before h.tables.requests
   pub continued : IsUnreplied h.tables.requests h.continued
@@ -131,8 +131,8 @@ pub record IsFair (before : List Request) (h : AfterInput) : Type 0 where
 pub quietly : (old new : List Request) → AllQuiet old new → Carries old new
 quietly old new q = record { kept = new; fresh = []; is = sym (append-nil new); quiet = q; are_fresh = tt }
 
-fair_hears : (tables after : Tables) → AllQuiet tables.requests after.requests → IsFair tables.requests (continuing_none after)
-fair_hears tables after q = record { carries = quietly tables.requests after.requests q; continued = tt }
+fair_applies : (tables after : Tables) → AllQuiet tables.requests after.requests → IsFair tables.requests (continuing_none after)
+fair_applies tables after q = record { carries = quietly tables.requests after.requests q; continued = tt }
 
 cancelled_quiet : (conn : ℕ) (r : Request) → IsQuiet r (cond (is_of conn r) (record r { is_cancelled = true }) r)
 cancelled_quiet conn r = by_test (λ s. IsQuiet r s) (is_of conn r) (record r { is_cancelled = true }) r (λ e. record { replied = refl; grant = λ c. refl }) (λ e. same_quiet r)
@@ -175,44 +175,44 @@ no_replies : (r : Request) → not (is_some r.replied) ≡ true → replies_of r
 no_replies r e = ap (λ b. let n : ℕ = cond b 1 0 in n) (not_true (is_some r.replied) e)
 
 -- a request that passes a test which only unreplied ones pass has no reply
-pending_unreplied : (comparison : Request → Bool) → ((r : Request) → comparison r ≡ true → is_pending r ≡ true) → (rs : List Request) (n : ℕ) → passes_option comparison (nth rs n) ≡ true → replies_at rs n ≡ 0
-pending_unreplied comparison h rs n e = go (nth rs n) e
+pending_unreplied : (holds : Request → Bool) → ((r : Request) → holds r ≡ true → is_pending r ≡ true) → (rs : List Request) (n : ℕ) → passes_option holds (nth rs n) ≡ true → replies_at rs n ≡ 0
+pending_unreplied holds h rs n e = go (nth rs n) e
   where
-    go : (o : Option Request) → passes_option comparison o ≡ true → option_or_else o 0 replies_of ≡ 0
+    go : (o : Option Request) → passes_option holds o ≡ true → option_or_else o 0 replies_of ≡ 0
     go None e = absurd (true≢false (sym e))
     go (Some r) e = no_replies r (and_second (not r.is_cancelled) _ (h r e))
 
-fair_moved : (tables : Tables) (f : Request → Request) → ((r : Request) → IsQuiet r (f r)) → (n : ℕ) → replies_at tables.requests n ≡ 0 → IsFair tables.requests (continuing n (with_request f n tables))
-fair_moved tables f q n e = record {
+fair_continued : (tables : Tables) (f : Request → Request) → ((r : Request) → IsQuiet r (f r)) → (n : ℕ) → replies_at tables.requests n ≡ 0 → IsFair tables.requests (continuing n (with_request f n tables))
+fair_continued tables f q n e = record {
   carries = quietly tables.requests (changed_nth f tables.requests n) (all_changed f q tables.requests n);
   continued = changed_slice_replies f q tables.requests n ∙ e;
 }
 
 fair_continues : (settings : Settings) (n : ℕ) (text : Bytes) (tables : Tables) → IsFair tables.requests (continues settings n text tables)
 fair_continues settings n text tables = by_test (λ h. IsFair tables.requests h) (passes_option (is_awaiting settings) (nth tables.requests n)) _ (continuing_none tables)
-    (λ e. fair_moved tables (λ r. with_text text r) (text_quiet text) n
+    (λ e. fair_continued tables (λ r. with_text text r) (text_quiet text) n
     (pending_unreplied (is_awaiting settings) (λ r w. and_first (is_pending r) _ (and_first _ _ w)) tables.requests n e))
-    (λ e. fair_hears tables tables (all_same tables.requests))
+    (λ e. fair_applies tables tables (all_same tables.requests))
 
 fair_cancels : (settings : Settings) (n : ℕ) (tables : Tables) → IsFair tables.requests (cancels settings n tables)
 fair_cancels settings n tables = by_test (λ h. IsFair tables.requests h) (passes_option (is_cancellable settings tables n) (nth tables.requests n)) _ (continuing_none tables)
-    (λ e. fair_hears tables (with_request (λ r. record r { is_cancelled = true }) n tables)
+    (λ e. fair_applies tables (with_request (λ r. record r { is_cancelled = true }) n tables)
     (all_changed (λ r. record r { is_cancelled = true }) (λ r. record { replied = refl; grant = λ c. refl }) tables.requests n))
-    (λ e. fair_hears tables tables (all_same tables.requests))
+    (λ e. fair_applies tables tables (all_same tables.requests))
 
-fair_obeys : (settings : Settings) (moment conn : ℕ) (random : Bytes) (message : ClientMsg) (tables : Tables) → IsFair tables.requests (after_client_message settings moment conn random message tables)
-fair_obeys settings moment conn random (Version major minor) tables = fair_hears tables (with_connection (λ c. record c { has_version = true }) conn tables) (all_same tables.requests)
-fair_obeys settings moment conn random (Pid pid) tables = fair_hears tables (with_connection (λ c. record c { pid = Some pid }) conn tables) (all_same tables.requests)
-fair_obeys settings moment conn random (Auth id mechanism parameters resp) tables =
+fair_client_message : (settings : Settings) (moment conn : ℕ) (random : Bytes) (message : ClientMsg) (tables : Tables) → IsFair tables.requests (after_client_message settings moment conn random message tables)
+fair_client_message settings moment conn random (Version major minor) tables = fair_applies tables (with_connection (λ c. record c { has_version = true }) conn tables) (all_same tables.requests)
+fair_client_message settings moment conn random (Pid pid) tables = fair_applies tables (with_connection (λ c. record c { pid = Some pid }) conn tables) (all_same tables.requests)
+fair_client_message settings moment conn random (Auth id mechanism parameters resp) tables =
     fair_new tables (new_request moment conn id random (Authenticates mechanism parameters resp [])) refl (λ c e. absurd (true≢false (sym e)))
-fair_obeys settings moment conn random (Cont id text) tables = fair_continues settings (request_number tables conn id) text tables
-fair_obeys settings moment conn random (Cancel id) tables = fair_cancels settings (request_number tables conn id) tables
-fair_obeys settings moment conn random Other tables = fair_hears tables tables (all_same tables.requests)
+fair_client_message settings moment conn random (Cont id text) tables = fair_continues settings (request_number tables conn id) text tables
+fair_client_message settings moment conn random (Cancel id) tables = fair_cancels settings (request_number tables conn id) tables
+fair_client_message settings moment conn random Other tables = fair_applies tables tables (all_same tables.requests)
 
 fair_client_line : (settings : Settings) (moment conn : ℕ) (random : Bytes) (c : Connection) (o : Option ClientMsg) (tables : Tables) → IsFair tables.requests (client_line settings moment conn random c o tables)
 fair_client_line settings moment conn random c None tables = fair_closes conn tables
 fair_client_line settings moment conn random c (Some message) tables = by_test (λ h. IsFair tables.requests h) (client_may tables conn c message) _ (closing conn tables)
-    (λ e. fair_obeys settings moment conn random message tables) (λ e. fair_closes conn tables)
+    (λ e. fair_client_message settings moment conn random message tables) (λ e. fair_closes conn tables)
 
 -- ---- the messages of a master
 
@@ -247,17 +247,17 @@ unused_grant : (rs : List Request) (o : Option Grant) → ((g : Grant) → o ≡
 unused_grant rs None h c e = absurd (true≢false (sym e))
 unused_grant rs (Some g) h c e = subst (λ m. is_used m rs ≡ false) (eqb-true _ _ e) (h g refl)
 
-fair_obeys_master : (settings : Settings) (moment conn : ℕ) (random : Bytes) (message : MasterMsg) (tables : Tables) → IsFair tables.requests (after_master_message settings moment conn random message tables)
-fair_obeys_master settings moment conn random (MasterVersion major minor) tables = fair_hears tables (with_connection (λ c. record c { has_version = true }) conn tables) (all_same tables.requests)
-fair_obeys_master settings moment conn random (LookupRequest id pid client cookie) tables =
+fair_master_message : (settings : Settings) (moment conn : ℕ) (random : Bytes) (message : MasterMsg) (tables : Tables) → IsFair tables.requests (after_master_message settings moment conn random message tables)
+fair_master_message settings moment conn random (MasterVersion major minor) tables = fair_applies tables (with_connection (λ c. record c { has_version = true }) conn tables) (all_same tables.requests)
+fair_master_message settings moment conn random (LookupRequest id pid client cookie) tables =
     fair_new tables (new_request moment conn id random (LooksUp (granted settings moment tables pid client cookie))) refl
     (unused_grant tables.requests (granted settings moment tables pid client cookie) (granted_unused settings moment tables pid client cookie))
-fair_obeys_master settings moment conn random MasterOther tables = fair_hears tables tables (all_same tables.requests)
+fair_master_message settings moment conn random MasterOther tables = fair_applies tables tables (all_same tables.requests)
 
 fair_master_line : (settings : Settings) (moment conn : ℕ) (random : Bytes) (c : Connection) (o : Option MasterMsg) (tables : Tables) → IsFair tables.requests (master_line settings moment conn random c o tables)
 fair_master_line settings moment conn random c None tables = fair_closes conn tables
 fair_master_line settings moment conn random c (Some message) tables = by_test (λ h. IsFair tables.requests h) (master_may tables conn c message) _ (closing conn tables)
-    (λ e. fair_obeys_master settings moment conn random message tables) (λ e. fair_closes conn tables)
+    (λ e. fair_master_message settings moment conn random message tables) (λ e. fair_closes conn tables)
 
 fair_line_by : (settings : Settings) (moment conn : ℕ) (text random : Bytes) (c : Connection) (tables : Tables) → IsFair tables.requests (line_by settings moment conn text random c tables)
 fair_line_by settings moment conn text random c tables = by_test (λ h. IsFair tables.requests h) (is_client c.kind) _ _
@@ -265,10 +265,10 @@ fair_line_by settings moment conn text random c tables = by_test (λ h. IsFair t
     (λ d. fair_master_line settings moment conn random c (master_message text) tables)
 
 fair_line : (settings : Settings) (moment conn : ℕ) (text random : Bytes) (o : Option Connection) (tables : Tables) → IsFair tables.requests (line_on settings moment conn text random o tables)
-fair_line settings moment conn text random None tables = fair_hears tables tables (all_same tables.requests)
+fair_line settings moment conn text random None tables = fair_applies tables tables (all_same tables.requests)
 fair_line settings moment conn text random (Some c) tables = by_test (λ h. IsFair tables.requests h) c.is_open (line_by settings moment conn text random c tables) (continuing_none tables)
     (λ e. fair_line_by settings moment conn text random c tables)
-    (λ e. fair_hears tables tables (all_same tables.requests))
+    (λ e. fair_applies tables tables (all_same tables.requests))
 
 -- ---- answers
 
@@ -280,23 +280,23 @@ late_quiet db answer r = by_test (λ s. IsQuiet r s) (is_some r.decided) r (with
 
 fair_answers : (tables : Tables) (n : ℕ) (q : Question) (answer : Answer) → IsFair tables.requests (answers_request n q answer tables)
 fair_answers tables n q answer = by_test (λ h. IsFair tables.requests h) (passes_option is_undecided (nth tables.requests n)) _ (continuing_none (with_request (with_late_answer q.db answer) n tables))
-    (λ e. fair_moved tables (with_answer q.db answer) (answer_quiet q.db answer) n (pending_unreplied is_undecided (λ r w. and_first (is_pending r) _ w) tables.requests n e))
-    (λ e. fair_hears tables (with_request (with_late_answer q.db answer) n tables) (all_changed (with_late_answer q.db answer) (late_quiet q.db answer) tables.requests n))
+    (λ e. fair_continued tables (with_answer q.db answer) (answer_quiet q.db answer) n (pending_unreplied is_undecided (λ r w. and_first (is_pending r) _ w) tables.requests n e))
+    (λ e. fair_applies tables (with_request (with_late_answer q.db answer) n tables) (all_changed (with_late_answer q.db answer) (late_quiet q.db answer) tables.requests n))
 
 fair_records : (settings : Settings) (moment n : ℕ) (answer : Answer) (o : Option QueryRow) (tables : Tables) → IsFair tables.requests (after_answer settings moment n answer o tables)
-fair_records settings moment n answer None tables = fair_hears tables tables (all_same tables.requests)
+fair_records settings moment n answer None tables = fair_applies tables tables (all_same tables.requests)
 fair_records settings moment n answer (Some a) tables = by_test (λ h. IsFair tables.requests h) (is_running a) _ (continuing_none tables)
     (λ e. fair_answers (with_query (answered_by settings moment (nth tables.requests a.request) (recorded_answer a.question.kind answer)) n tables) a.request a.question (recorded_answer a.question.kind answer))
-    (λ e. fair_hears tables tables (all_same tables.requests))
+    (λ e. fair_applies tables tables (all_same tables.requests))
 
 -- each input is fair to the requests
-pub fair_heard : (settings : Settings) (moment : ℕ) (input : Input) (tables : Tables) → IsFair tables.requests (after_input settings moment input tables)
+pub fair_input : (settings : Settings) (moment : ℕ) (input : Input) (tables : Tables) → IsFair tables.requests (after_input settings moment input tables)
 unfolding after_input
-fair_heard settings moment (Opened kind random) tables = fair_hears tables _ (all_same tables.requests)
-fair_heard settings moment (Line conn text random) tables = fair_line settings moment conn text random (nth tables.connections conn) tables
-fair_heard settings moment (Broken conn) tables = fair_closes conn tables
-fair_heard settings moment (Gone conn) tables = fair_hears tables (with_end conn tables) (ended_quiet conn tables)
-fair_heard settings moment Take tables = fair_hears tables _ (all_same tables.requests)
-fair_heard settings moment (Answered query answer) tables = fair_records settings moment query answer (nth tables.queries query) tables
-fair_heard settings moment (Late query) tables = fair_records settings moment query (Internal WasLate) (nth tables.queries query) tables
-fair_heard settings moment Tick tables = fair_hears tables tables (all_same tables.requests)
+fair_input settings moment (Opened kind random) tables = fair_applies tables _ (all_same tables.requests)
+fair_input settings moment (Line conn text random) tables = fair_line settings moment conn text random (nth tables.connections conn) tables
+fair_input settings moment (Broken conn) tables = fair_closes conn tables
+fair_input settings moment (Gone conn) tables = fair_applies tables (with_end conn tables) (ended_quiet conn tables)
+fair_input settings moment Take tables = fair_applies tables _ (all_same tables.requests)
+fair_input settings moment (Answered query answer) tables = fair_records settings moment query answer (nth tables.queries query) tables
+fair_input settings moment (Late query) tables = fair_records settings moment query (Internal WasLate) (nth tables.queries query) tables
+fair_input settings moment Tick tables = fair_applies tables tables (all_same tables.requests)

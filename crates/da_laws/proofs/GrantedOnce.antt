@@ -1,7 +1,7 @@
 -- At most one request of a master is granted for one request of a client.
 use Rattle.std.proofs.Common.{◌≡◌, refl, sym, ◌∙◌, ap, subst, Option, Some, None, List, [], ◌∷◌, ◌++◌, ℕ, zero, suc, ◌+◌, ◌≤◌, Bool, true, false, cond, ◌||◌, map, arith, true≢false, add-zero, zero-add}
 use Rattle.da_tables.proofs.Cases.{by_test}
-use Rattle.da_laws.proofs.Entries.{AllQuiet, Carries, AreFresh, is_used, IsFair, fair_heard}
+use Rattle.da_laws.proofs.Entries.{AllQuiet, Carries, AreFresh, is_used, IsFair, fair_input}
 use Rattle.da_play.proofs.EntryInduction.{keeps_requests}
 use Rattle.da_base.specs.Words.{nth, changed_at, changed_nth, option_or_else, count_where}
 use Rattle.da_fields.specs.declared.answer.Answer.{Answer}
@@ -115,7 +115,7 @@ unfolding after
 entry_uses c settings tables e few =
     let part1 : Tables = with_due_replied settings e.moment tables in
     let h : AfterInput = after_input settings e.moment e.input part1 in
-    let fair : IsFair part1.requests h = fair_heard settings e.moment e.input part1 in
+    let fair : IsFair part1.requests h = fair_input settings e.moment e.input part1 in
     let one : uses c h.tables.requests ≤ 1 = uses-carried c part1.requests h.tables.requests fair.carries (subst (λ x. x ≤ 1) (sym (uses-due c settings e.moment tables)) few) in
     subst (λ rs. uses c rs ≤ 1) (sym (keeps_requests settings part1 e.input _)) (subst (λ x. x ≤ 1) (sym (uses-after_continued c settings e.moment e.hits h.tables h.continued)) one)
 

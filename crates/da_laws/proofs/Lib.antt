@@ -18,3 +18,4 @@ pub mod Silent
 pub mod StageLaw
 pub mod SuccessLaw
 pub mod UsableLemmas
+pub mod AskedDatabases

@@ -2,7 +2,7 @@
 use Rattle.std.proofs.Common.{◌≡◌, ◌⊎◌, inl, inr, refl, sym, ◌∙◌, ap, subst, Option, Some, None, List, [], ◌∷◌, ◌++◌, ℕ, suc, Bool, true, false, length, is_some, not, ◌&&◌, true≢false}
 use Rattle.std.proofs.lemmas.Option.{none-some, same_Some}
 use Rattle.da_tables.proofs.Cases.{by_test, and_first, and_second, not_true}
-use Rattle.da_play.proofs.EntryParts.{HeardParts, MovedParts, an_entry_gives}
+use Rattle.da_play.proofs.EntryParts.{InputParts, ContinuedParts, an_entry_gives}
 use Rattle.da_invariants.proofs.OpenQueries.{nowhere}
 use Rattle.da_tables.proofs.Rows.{of_changed, of_appended, of_mapped, nth-unchanged, same_or_not}
 use Rattle.da_invariants.proofs.Standing.{same_stage}
@@ -53,7 +53,7 @@ module _ (settings : Settings) where
       go (inl (d, s, is, w)) = subst IsNoted (sym w) (h s is)
       go (inr (d, is)) = p n r is (λ x. d (sym (same_Some m n x)))
 
-  -- whatever the request is that moves
+  -- whatever the request is that continues
   changed_but : (f : Request → Request) (rs : List Request) (m : ℕ) → AllNotedBut (Some m) rs → AllNotedBut (Some m) (changed_nth f rs m)
   changed_but f rs m p n r e h = p n r (sym (nth-unchanged f rs m n (λ d. h (ap (λ (k : ℕ). Some k) (sym d)))) ∙ e) h
 
@@ -108,8 +108,8 @@ module _ (settings : Settings) where
     by_stage = λ d. absurd (true≢false (sym d ∙ not_true (is_some r.decided) (and_second (is_pending r) _ u)));
   }
 
-  settled_noted : (rs : List Request) (m : ℕ) (r : Request) → nth rs m ≡ Some r → IsNoted r → AllNotedBut (Some m) rs → AllNoted rs
-  settled_noted rs m r is p all n s e = go (same_or_not n m)
+  stage_noted : (rs : List Request) (m : ℕ) (r : Request) → nth rs m ≡ Some r → IsNoted r → AllNotedBut (Some m) rs → AllNoted rs
+  stage_noted rs m r is p all n s e = go (same_or_not n m)
     where
       go : (n ≡ m) ⊎ (n ≡ m → ⊥) → IsNoted s
       go (inl d) = subst IsNoted (same_Some r s (sym is ∙ ap (nth rs) (sym d) ∙ e)) p
@@ -140,8 +140,8 @@ module _ (settings : Settings) where
     late_all n db answer u p = all_but_none _ (changed_noted (with_late_answer db answer) before.requests n
         (λ r e. late_noted db answer r (sym (ap (passes_option is_undecided) e) ∙ u) (p n r e (λ d. none-some n d))) (weaker_but n before.requests (all_of_none before.requests p)))
 
-    pub heard_noted : HeardParts settings moment before entered (λ tables m. AllNotedBut m tables.requests)
-    heard_noted = record {
+    pub input_noted : InputParts settings moment before entered (λ tables m. AllNotedBut m tables.requests)
+    input_noted = record {
       opens = λ kind random l p. p;
       tells = λ conn change h p. p;
       ends = λ conn e p. end_noted conn p;
@@ -153,13 +153,13 @@ module _ (settings : Settings) where
       lates = λ query given a g is run u p. late_all a.request a.question.db _ u p;
     }
 
-    pub moved_noted : MovedParts settings moment before entered hits noted_but all_noted
-    moved_noted = record {
+    pub continued_noted : ContinuedParts settings moment before entered hits noted_but all_noted
+    continued_noted = record {
       hit = λ tables continued number done rest a p is e w u q. changed_but (with_answer a.question.db p.0) tables.requests continued q;
       misses = λ tables continued number done rest e w q. q;
       rests = λ tables q. all_of_none tables.requests q;
-      awaits = λ tables n r text is u e q. settled_noted tables.requests n r is (open_noted r u (ap decision_in e)) q;
-      asks = λ tables n r question is u e q. settled_noted tables.requests n r is (open_noted r u (ap decision_in e)) q;
+      awaits = λ tables n r text is u e q. stage_noted tables.requests n r is (open_noted r u (ap decision_in e)) q;
+      asks = λ tables n r question is u e q. stage_noted tables.requests n r is (open_noted r u (ap decision_in e)) q;
       decides = λ tables n r d is u e q. changed_noted (with_decision settings moment) tables.requests n (λ s x. decision_noted moment s (decided_by s (subst (λ (y : Request). request_stage settings y ≡ Decided d) (same_Some r s (sym is ∙ x)) e))) q;
       kept = λ tables m query given a l run is k q. q;
     }
@@ -178,7 +178,7 @@ module _ (settings : Settings) where
   history_noted (e ∷ g) =
       let before : Tables = with_due_replied settings e.moment (tables_of settings g) in
       an_entry_gives settings (tables_of settings g) e (noted_but e.moment before e.input e.hits) (all_noted e.moment before e.input e.hits)
-      (heard_noted e.moment before e.input e.hits) (moved_noted e.moment before e.input e.hits) (all_but_none before.requests (due_all e.moment (tables_of settings g) (history_noted g)))
+      (input_noted e.moment before e.input e.hits) (continued_noted e.moment before e.input e.hits) (all_but_none before.requests (due_all e.moment (tables_of settings g) (history_noted g)))
 
 pub decisions_are_noted : DecisionsAreNoted
 decisions_are_noted settings h n r e = (history_noted settings h n r e).noted

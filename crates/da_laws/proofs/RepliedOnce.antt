@@ -3,15 +3,14 @@ use Rattle.da_play.proofs.EntryInduction.{keeps_requests}
 use Rattle.std.proofs.Common.{◌≡◌, ◌≢◌, refl, sym, ◌∙◌, ap, ap₂, subst, Option, Some, None, List, [], ◌∷◌, ◌++◌, ℕ, zero, suc, ◌+◌, ◌≤◌, ◌<◌, Bool, true, false, cond, map, slice_get, is_some, arith, ◌==◌, option_to_list, true≢false, eq-eqb, ne_eqb, add-zero, zero-add}
 use Rattle.std.proofs.lemmas.Bool.{eqb-true}
 use Rattle.da_tables.proofs.Cases.{by_test, and_first, and_second, not_true}
-use Rattle.da_laws.proofs.Entries.{replies_of, replies_at, quiet_replies, all_changed, all_same, AllQuiet, IsQuiet, IsFair, Carries, AreFresh, IsUnreplied, fair_heard}
+use Rattle.da_laws.proofs.Entries.{replies_of, replies_at, quiet_replies, all_changed, all_same, AllQuiet, IsQuiet, IsFair, Carries, AreFresh, IsUnreplied, fair_input}
 use Rattle.da_base.specs.Words.{nth, changed_at, changed_nth, passes_option, option_or_else, numbers_where, count_where}
 use Rattle.da_fields.specs.declared.answer.Answer.{Answer}
 use Rattle.da_play.specs.Effects.{effects, final_replies, all_final_replies, due_requests, by_due, with_placed, continued_if}
-use Rattle.da_play.specs.History.{tables_of, after, keeps, kept_for, after_stage, follows_for, follows_from, after_input}
+use Rattle.da_play.specs.History.{tables_of, after, keeps, after_stage, follows_for, follows_from, after_input}
 use Rattle.da_request.specs.Requests.{with_decision}
 use Rattle.da_tables.specs.Tables.{with_due_replied}
 use Rattle.da_answers.specs.Hits.{after_hits, after_hit, hit_on, hit_with}
-use Rattle.da_answers.specs.RecordedAnswers.{is_kept, recorded_answer}
 use Rattle.da_request.specs.Requests.{with_answer}
 use Rattle.da_laws.specs.ReplyLaws.{RepliesAtMostOnce}
 use Rattle.da_request.specs.Requests.{is_due, is_held, request_stage}
@@ -48,33 +47,33 @@ times-by_due settings tables n [] = refl
 times-by_due settings tables n (m ∷ ms) = times-with_placed settings tables n m (by_due settings tables ms) ∙ ap (λ x. cond (m == n) 1 0 + x) (times-by_due settings tables n ms)
 
 abbrev test_of : (Request → Bool) → Request → ℕ
-test_of comparison r = cond (comparison r) 1 0
+test_of holds r = cond (holds r) 1 0
 
-none_below : (comparison : Request → Bool) (n k : ℕ) (rs : List Request) → n < k → times n (numbers_where comparison k rs) ≡ 0
-none_below comparison n k [] h = refl
-none_below comparison n k (r ∷ rs) h = by_test (λ xs. times n xs ≡ 0) (comparison r) (k ∷ numbers_where comparison (suc k) rs) (numbers_where comparison (suc k) rs)
-    (λ e. ap₂ (λ (b : Bool) (x : ℕ). cond b 1 0 + x) (ne_eqb k n (λ d. let bad : ⊥ = omega (arith, d, h) in bad)) (none_below comparison n (suc k) rs (omega (arith, h))))
-    (λ e. none_below comparison n (suc k) rs (omega (arith, h)))
+none_below : (holds : Request → Bool) (n k : ℕ) (rs : List Request) → n < k → times n (numbers_where holds k rs) ≡ 0
+none_below holds n k [] h = refl
+none_below holds n k (r ∷ rs) h = by_test (λ xs. times n xs ≡ 0) (holds r) (k ∷ numbers_where holds (suc k) rs) (numbers_where holds (suc k) rs)
+    (λ e. ap₂ (λ (b : Bool) (x : ℕ). cond b 1 0 + x) (ne_eqb k n (λ d. let bad : ⊥ = omega (arith, d, h) in bad)) (none_below holds n (suc k) rs (omega (arith, h))))
+    (λ e. none_below holds n (suc k) rs (omega (arith, h)))
 
-times-numbers : (comparison : Request → Bool) (n k : ℕ) (rs : List Request) → times (n + k) (numbers_where comparison k rs) ≡ option_or_else (slice_get rs n) 0 (test_of comparison)
-times-numbers comparison n k [] = refl
-times-numbers comparison zero k (r ∷ rs) = by_test (λ xs. times (0 + k) xs ≡ test_of comparison r) (comparison r) (k ∷ numbers_where comparison (suc k) rs) (numbers_where comparison (suc k) rs)
-    (λ e. ap₂ (λ (b : Bool) (x : ℕ). cond b 1 0 + x) (eq-eqb k (0 + k) (omega arith)) (none_below comparison (0 + k) (suc k) rs (omega arith)) ∙ sym (ap (λ b. let n : ℕ = cond b 1 0 in n) e))
-    (λ e. none_below comparison (0 + k) (suc k) rs (omega arith) ∙ sym (ap (λ b. let n : ℕ = cond b 1 0 in n) e))
-times-numbers comparison (suc n) k (r ∷ rs) = by_test (λ xs. times (suc n + k) xs ≡ option_or_else (slice_get rs n) 0 (test_of comparison)) (comparison r) (k ∷ numbers_where comparison (suc k) rs) (numbers_where comparison (suc k) rs)
-    (λ e. ap₂ (λ (b : Bool) (x : ℕ). cond b 1 0 + x) (ne_eqb k (suc n + k) (λ d. let bad : ⊥ = omega (arith, d) in bad)) (rest (times-numbers comparison n (suc k) rs)) ∙ zero-add _)
-    (λ e. rest (times-numbers comparison n (suc k) rs))
+times-numbers : (holds : Request → Bool) (n k : ℕ) (rs : List Request) → times (n + k) (numbers_where holds k rs) ≡ option_or_else (slice_get rs n) 0 (test_of holds)
+times-numbers holds n k [] = refl
+times-numbers holds zero k (r ∷ rs) = by_test (λ xs. times (0 + k) xs ≡ test_of holds r) (holds r) (k ∷ numbers_where holds (suc k) rs) (numbers_where holds (suc k) rs)
+    (λ e. ap₂ (λ (b : Bool) (x : ℕ). cond b 1 0 + x) (eq-eqb k (0 + k) (omega arith)) (none_below holds (0 + k) (suc k) rs (omega arith)) ∙ sym (ap (λ b. let n : ℕ = cond b 1 0 in n) e))
+    (λ e. none_below holds (0 + k) (suc k) rs (omega arith) ∙ sym (ap (λ b. let n : ℕ = cond b 1 0 in n) e))
+times-numbers holds (suc n) k (r ∷ rs) = by_test (λ xs. times (suc n + k) xs ≡ option_or_else (slice_get rs n) 0 (test_of holds)) (holds r) (k ∷ numbers_where holds (suc k) rs) (numbers_where holds (suc k) rs)
+    (λ e. ap₂ (λ (b : Bool) (x : ℕ). cond b 1 0 + x) (ne_eqb k (suc n + k) (λ d. let bad : ⊥ = omega (arith, d) in bad)) (rest (times-numbers holds n (suc k) rs)) ∙ zero-add _)
+    (λ e. rest (times-numbers holds n (suc k) rs))
   where
     shift : suc n + k ≡ n + suc k
     shift = omega arith
 
-    rest : times (n + suc k) (numbers_where comparison (suc k) rs) ≡ option_or_else (slice_get rs n) 0 (test_of comparison) → times (suc n + k) (numbers_where comparison (suc k) rs) ≡ option_or_else (slice_get rs n) 0 (test_of comparison)
-    rest h = ap (λ m. times m (numbers_where comparison (suc k) rs)) shift ∙ h
+    rest : times (n + suc k) (numbers_where holds (suc k) rs) ≡ option_or_else (slice_get rs n) 0 (test_of holds) → times (suc n + k) (numbers_where holds (suc k) rs) ≡ option_or_else (slice_get rs n) 0 (test_of holds)
+    rest h = ap (λ m. times m (numbers_where holds (suc k) rs)) shift ∙ h
 
 -- of the requests that pass a test the numbers are listed once
-times-numbers_where : (comparison : Request → Bool) (n : ℕ) (rs : List Request) → times n (numbers_where comparison 1 rs) ≡ option_or_else (nth rs n) 0 (test_of comparison)
-times-numbers_where comparison zero rs = none_below comparison 0 1 rs (omega arith)
-times-numbers_where comparison (suc n) rs = ap (λ m. times m (numbers_where comparison 1 rs)) one_more ∙ times-numbers comparison n 1 rs
+times-numbers_where : (holds : Request → Bool) (n : ℕ) (rs : List Request) → times n (numbers_where holds 1 rs) ≡ option_or_else (nth rs n) 0 (test_of holds)
+times-numbers_where holds zero rs = none_below holds 0 1 rs (omega arith)
+times-numbers_where holds (suc n) rs = ap (λ m. times m (numbers_where holds 1 rs)) one_more ∙ times-numbers holds n 1 rs
   where
     one_more : suc n ≡ n + 1
     one_more = omega arith
@@ -143,7 +142,7 @@ hits_quiet : (settings : Settings) (continued : ℕ) (tables : Tables) (hits : L
 hits_quiet settings continued tables [] n = refl
 hits_quiet settings continued tables (k ∷ ks) n = hits_quiet settings continued (after_hit settings continued tables k) ks n ∙ quiet_replies tables.requests (after_hit settings continued tables k).requests n (hit_quiet settings continued k (nth tables.queries k) tables)
 
--- ---- the reply to the request that is moved
+-- ---- the reply to the request that is continued
 
 other_slice : (f : Request → Request) (rs : List Request) (m n : ℕ) → n ≢ m → slice_get (changed_at f rs m) n ≡ slice_get rs n
 other_slice f [] m n h = refl
@@ -157,10 +156,10 @@ nth-other f rs zero n h = refl
 nth-other f rs (suc m) zero h = refl
 nth-other f rs (suc m) (suc n) h = other_slice f rs m n (λ e. h (ap (λ k. suc k) e))
 
--- all but the one that is moved keep their replies
-settled_other : (settings : Settings) (moment number : ℕ) (o : Option Request) (tables : Tables) (n : ℕ) → n ≢ number → replies_at (follows_for settings moment number o tables).requests n ≡ replies_at tables.requests n
-settled_other settings moment number None tables n h = refl
-settled_other settings moment number (Some r) tables n h = go (request_stage settings r)
+-- all but the one that is continued keep their replies
+stage_other : (settings : Settings) (moment number : ℕ) (o : Option Request) (tables : Tables) (n : ℕ) → n ≢ number → replies_at (follows_for settings moment number o tables).requests n ≡ replies_at tables.requests n
+stage_other settings moment number None tables n h = refl
+stage_other settings moment number (Some r) tables n h = go (request_stage settings r)
   where
     go : (s : Stage) → replies_at (follows_from settings moment number r s tables).requests n ≡ replies_at tables.requests n
     go (Awaits text) = refl
@@ -170,7 +169,7 @@ settled_other settings moment number (Some r) tables n h = go (request_stage set
 is_replied : Request → Bool
 is_replied r = is_some r.replied
 
--- the entry tells the reply of the request that it moves
+-- the entry tells the reply of the request that it continues
 told_once : (o : Option Request) (n : ℕ) → option_or_else o 0 replies_of ≡ times n (option_to_list (cond (passes_option (λ r. is_some r.replied) o) (Some n) None))
 told_once None n = refl
 told_once (Some r) n = go (is_some r.replied)
@@ -187,12 +186,12 @@ equal_or_not : (m n : ℕ) → (b : Bool) → (m == n) ≡ b → (P : Type 0) �
 equal_or_not m n true e P same other = same (eqb-true m n e)
 equal_or_not m n false e P same other = other (λ d. true≢false (sym (eq-eqb m n d) ∙ e))
 
-moved_to : Settings → ℕ → List ℕ → Tables → Option ℕ → Tables
-moved_to settings moment hits tables o = option_or_else o tables (λ number. after_stage settings moment number (after_hits settings number tables hits))
+continued_to : Settings → ℕ → List ℕ → Tables → Option ℕ → Tables
+continued_to settings moment hits tables o = option_or_else o tables (λ number. after_stage settings moment number (after_hits settings number tables hits))
 
 part_two : (settings : Settings) (moment : ℕ) (hits : List ℕ) (tables : Tables) (o : Option ℕ) (n : ℕ) → IsUnreplied tables.requests o →
-    replies_at (moved_to settings moment hits tables o).requests n ≡ replies_at tables.requests n + times n (option_to_list (continued_if (λ r. is_some r.replied) (moved_to settings moment hits tables o).requests o))
-unfolding moved_to after_stage
+    replies_at (continued_to settings moment hits tables o).requests n ≡ replies_at tables.requests n + times n (option_to_list (continued_if (λ r. is_some r.replied) (continued_to settings moment hits tables o).requests o))
+unfolding continued_to after_stage
 part_two settings moment hits tables None n u = sym (add-zero (replies_at tables.requests n))
 part_two settings moment hits tables (Some m) n u =
     let before : Tables = after_hits settings m tables hits in
@@ -200,17 +199,17 @@ part_two settings moment hits tables (Some m) n u =
     equal_or_not n m (n == m) refl _
     (λ e. subst (λ k. replies_at final.requests k ≡ replies_at tables.requests k + times k (option_to_list (continued_if (λ r. is_some r.replied) final.requests (Some m)))) (sym e)
     (told_once (nth final.requests m) m ∙ sym (ap (λ x. x + times m (option_to_list (continued_if (λ r. is_some r.replied) final.requests (Some m)))) u ∙ zero-add _)))
-    (λ e. settled_other settings moment m (nth before.requests m) before n e ∙ hits_quiet settings m tables hits n ∙ sym (ap (λ x. replies_at tables.requests n + x) (not_told _ n m e) ∙ add-zero _))
+    (λ e. stage_other settings moment m (nth before.requests m) before n e ∙ hits_quiet settings m tables hits n ∙ sym (ap (λ x. replies_at tables.requests n + x) (not_told _ n m e) ∙ add-zero _))
 
 -- ---- one entry, and a history
 
 entry_replies : (settings : Settings) (tables : Tables) (e : Entry) (n : ℕ) → replies_at (after settings tables e).requests n ≡ replies_at tables.requests n + times n (final_replies (effects settings tables e))
-unfolding after effects moved_to
+unfolding after effects continued_to
 entry_replies settings tables e n =
     let part1 : Tables = with_due_replied settings e.moment tables in
     let h : AfterInput = after_input settings e.moment e.input part1 in
-    let fair : IsFair part1.requests h = fair_heard settings e.moment e.input part1 in
-    let last : Tables = moved_to settings e.moment e.hits h.tables h.continued in
+    let fair : IsFair part1.requests h = fair_input settings e.moment e.input part1 in
+    let last : Tables = continued_to settings e.moment e.hits h.tables h.continued in
     let reported : List ℕ = option_to_list (continued_if (λ r. is_some r.replied) last.requests h.continued) in
     let first_part : replies_at part1.requests n ≡ replies_at tables.requests n + times n (due_requests settings tables e.moment) = part_one settings e.moment tables n in
     let own : replies_at h.tables.requests n ≡ replies_at part1.requests n = carried part1.requests h.tables.requests fair.carries n in

@@ -6,7 +6,7 @@ use Rattle.std.proofs.lemmas.Option.{none-some, same_Some}
 use Rattle.da_base.specs.Words.{nth, changed_at, changed_nth, passes_option, option_or_else, numbers_where, later}
 use Rattle.da_fields.specs.declared.answer.Answer.{Answer}
 use Rattle.da_tables.proofs.Cases.{by_test, and_first, and_second, not_true}
-use Rattle.da_play.proofs.EntryInduction.{EachPartKeeps, IsUndecidedAt, ContinuedUndecided, IsSound, nth-changed, after_part_one, sound_heard, sound_hits}
+use Rattle.da_play.proofs.EntryInduction.{EachPartKeeps, IsUndecidedAt, ContinuedUndecided, IsSound, nth-changed, after_part_one, sound_input, sound_hits}
 use Rattle.da_laws.proofs.RepliedOnce.{nth-other}
 use Rattle.da_play.proofs.EntryInduction.{keeps_requests}
 use Rattle.da_play.specs.Effects.{effects, final_replies, due_requests, by_due, with_placed, continued_if}
@@ -68,14 +68,14 @@ module _ (P : Request → Type 0) where
   all_changed f h rs zero q = q
   all_changed f h rs (suc n) q = all_changed_at f h rs n q
 
-  all_changed_at_if : (f : Request → Request) (comparison : Request → Bool) → ((r : Request) → comparison r ≡ true → P (f r)) → (rs : List Request) (n : ℕ) → passes_option comparison (slice_get rs n) ≡ true → AllOf rs → AllOf (changed_at f rs n)
-  all_changed_at_if f comparison h [] n e q = q
-  all_changed_at_if f comparison h (r ∷ rs) zero e q = (h r e, q.1)
-  all_changed_at_if f comparison h (r ∷ rs) (suc n) e q = (q.0, all_changed_at_if f comparison h rs n e q.1)
+  all_changed_at_if : (f : Request → Request) (holds : Request → Bool) → ((r : Request) → holds r ≡ true → P (f r)) → (rs : List Request) (n : ℕ) → passes_option holds (slice_get rs n) ≡ true → AllOf rs → AllOf (changed_at f rs n)
+  all_changed_at_if f holds h [] n e q = q
+  all_changed_at_if f holds h (r ∷ rs) zero e q = (h r e, q.1)
+  all_changed_at_if f holds h (r ∷ rs) (suc n) e q = (q.0, all_changed_at_if f holds h rs n e q.1)
 
-  all_changed_if : (f : Request → Request) (comparison : Request → Bool) → ((r : Request) → comparison r ≡ true → P (f r)) → (rs : List Request) (n : ℕ) → passes_option comparison (nth rs n) ≡ true → AllOf rs → AllOf (changed_nth f rs n)
-  all_changed_if f comparison h rs zero e q = q
-  all_changed_if f comparison h rs (suc n) e q = all_changed_at_if f comparison h rs n e q
+  all_changed_if : (f : Request → Request) (holds : Request → Bool) → ((r : Request) → holds r ≡ true → P (f r)) → (rs : List Request) (n : ℕ) → passes_option holds (nth rs n) ≡ true → AllOf rs → AllOf (changed_nth f rs n)
+  all_changed_if f holds h rs zero e q = q
+  all_changed_if f holds h rs (suc n) e q = all_changed_at_if f holds h rs n e q
 
   all_added : (rs : List Request) (r : Request) → P r → AllOf rs → AllOf (rs ++ r ∷ [])
   all_added [] r p q = (p, tt)
@@ -261,28 +261,28 @@ any-by_due settings tables n (m ∷ ms) = any-with_placed settings tables n m (b
 
 -- item n, counted from k, passes the test
 abbrev Passes : (Request → Bool) → ℕ → ℕ → List Request → Type 0
-Passes comparison n k rs = (i : ℕ) × (r : Request) × (n ≡ i + k) × (slice_get rs i ≡ Some r) × (comparison r ≡ true)
+Passes holds n k rs = (i : ℕ) × (r : Request) × (n ≡ i + k) × (slice_get rs i ≡ Some r) × (holds r ≡ true)
 
-further : (comparison : Request → Bool) (n k : ℕ) (q : Request) (rs : List Request) → Passes comparison n (suc k) rs → Passes comparison n k (q ∷ rs)
-further comparison n k q rs p = let at : n ≡ p.0 + suc k = p.2 in (suc p.0, p.1, omega (arith, at), p.3, p.4)
+further : (holds : Request → Bool) (n k : ℕ) (q : Request) (rs : List Request) → Passes holds n (suc k) rs → Passes holds n k (q ∷ rs)
+further holds n k q rs p = let at : n ≡ p.0 + suc k = p.2 in (suc p.0, p.1, omega (arith, at), p.3, p.4)
 
 either : (P : Type 0) (a b : Bool) → (a || b) ≡ true → (a ≡ true → P) → (b ≡ true → P) → P
 either P true b e f g = f refl
 either P false b e f g = g e
 
-any-numbers : (comparison : Request → Bool) (n k : ℕ) (rs : List Request) → list_any (is_number n) (numbers_where comparison k rs) ≡ true → Passes comparison n k rs
-any-numbers comparison n k [] e = absurd (true≢false (sym e))
-any-numbers comparison n k (r ∷ rs) e = go (comparison r) refl e (any-numbers comparison n (suc k) rs)
+any-numbers : (holds : Request → Bool) (n k : ℕ) (rs : List Request) → list_any (is_number n) (numbers_where holds k rs) ≡ true → Passes holds n k rs
+any-numbers holds n k [] e = absurd (true≢false (sym e))
+any-numbers holds n k (r ∷ rs) e = go (holds r) refl e (any-numbers holds n (suc k) rs)
   where
-    go : (b : Bool) → comparison r ≡ b → list_any (is_number n) (cond b (k ∷ numbers_where comparison (suc k) rs) (numbers_where comparison (suc k) rs)) ≡ true →
-        (list_any (is_number n) (numbers_where comparison (suc k) rs) ≡ true → Passes comparison n (suc k) rs) → Passes comparison n k (r ∷ rs)
-    go true t e later = either (Passes comparison n k (r ∷ rs)) (k == n) (list_any (is_number n) (numbers_where comparison (suc k) rs)) e
+    go : (b : Bool) → holds r ≡ b → list_any (is_number n) (cond b (k ∷ numbers_where holds (suc k) rs) (numbers_where holds (suc k) rs)) ≡ true →
+        (list_any (is_number n) (numbers_where holds (suc k) rs) ≡ true → Passes holds n (suc k) rs) → Passes holds n k (r ∷ rs)
+    go true t e later = either (Passes holds n k (r ∷ rs)) (k == n) (list_any (is_number n) (numbers_where holds (suc k) rs)) e
         (λ h. let here : k ≡ n = eqb-true k n h in (0, r, omega (arith, here), refl, t))
-        (λ h. further comparison n k r rs (later h))
-    go false t e later = further comparison n k r rs (later e)
+        (λ h. further holds n k r rs (later h))
+    go false t e later = further holds n k r rs (later e)
 
-nth_of : (comparison : Request → Bool) (n : ℕ) (rs : List Request) → Passes comparison n 1 rs → (r : Request) × (nth rs n ≡ Some r) × (comparison r ≡ true)
-nth_of comparison n rs p =
+nth_of : (holds : Request → Bool) (n : ℕ) (rs : List Request) → Passes holds n 1 rs → (r : Request) × (nth rs n ≡ Some r) × (holds r ≡ true)
+nth_of holds n rs p =
     let at : n ≡ suc p.0 = (let is : n ≡ p.0 + 1 = p.2 in omega (arith, is)) in
     (p.1, ap (nth rs) at ∙ p.3, p.4)
 
@@ -292,7 +292,7 @@ due_stands settings tables moment n e =
     nth_of (is_due settings moment) n tables.requests
     (any-numbers (is_due settings moment) n 1 tables.requests (sym (any-by_due settings tables n (numbers_where (is_due settings moment) 1 tables.requests)) ∙ e))
 
--- ---- the reply of the request that is moved
+-- ---- the reply of the request that is continued
 
 nothing_kept : (settings : Settings) (moment : ℕ) (origin : Tables) (entered : Input) → EachPartKeeps settings moment origin entered (λ rs. Unit {0})
 nothing_kept settings moment origin entered = record {
@@ -349,22 +349,22 @@ module _ (settings : Settings) (moment n : ℕ) (tables : Tables) where
       go (Asks q) stage e = quiet e
       go (Decided d) stage e = told_now r here u d stage e
 
-abbrev moved_to : Settings → ℕ → List ℕ → Tables → Option ℕ → Tables
-moved_to settings moment hits tables o = option_or_else o tables (λ number. after_stage settings moment number (after_hits settings number tables hits))
+abbrev continued_to : Settings → ℕ → List ℕ → Tables → Option ℕ → Tables
+continued_to settings moment hits tables o = option_or_else o tables (λ number. after_stage settings moment number (after_hits settings number tables hits))
 
-told_moved : (settings : Settings) (moment n : ℕ) (origin : Tables) (entered : Input) (hits : List ℕ) (tables : Tables) (o : Option ℕ) → ContinuedUndecided tables.requests o →
-    list_any (is_number n) (option_to_list (continued_if was_replied (moved_to settings moment hits tables o).requests o)) ≡ true → ToldAt settings moment n (moved_to settings moment hits tables o).requests
+reported_continued : (settings : Settings) (moment n : ℕ) (origin : Tables) (entered : Input) (hits : List ℕ) (tables : Tables) (o : Option ℕ) → ContinuedUndecided tables.requests o →
+    list_any (is_number n) (option_to_list (continued_if was_replied (continued_to settings moment hits tables o).requests o)) ≡ true → ToldAt settings moment n (continued_to settings moment hits tables o).requests
 unfolding after_stage
-told_moved settings moment n origin entered hits tables None u e = absurd (true≢false (sym e))
-told_moved settings moment n origin entered hits tables (Some m) u e = go (passes_option was_replied (nth (moved_to settings moment hits tables (Some m)).requests m)) refl e
+reported_continued settings moment n origin entered hits tables None u e = absurd (true≢false (sym e))
+reported_continued settings moment n origin entered hits tables (Some m) u e = go (passes_option was_replied (nth (continued_to settings moment hits tables (Some m)).requests m)) refl e
   where
     still : IsUndecidedAt (after_hits settings m tables hits).requests m
     still = (sound_hits settings moment origin entered (λ rs. Unit {0}) (nothing_kept settings moment origin entered) m hits tables (record { kept = tt; undecided = u })).undecided
 
-    go : (b : Bool) → passes_option was_replied (nth (moved_to settings moment hits tables (Some m)).requests m) ≡ b → list_any (is_number n) (option_to_list (cond b (Some m) None)) ≡ true → ToldAt settings moment n (moved_to settings moment hits tables (Some m)).requests
+    go : (b : Bool) → passes_option was_replied (nth (continued_to settings moment hits tables (Some m)).requests m) ≡ b → list_any (is_number n) (option_to_list (cond b (Some m) None)) ≡ true → ToldAt settings moment n (continued_to settings moment hits tables (Some m)).requests
     go false t e = absurd (true≢false (sym e))
-    go true t e = either (ToldAt settings moment n (moved_to settings moment hits tables (Some m)).requests) (m == n) false e
-        (λ h. subst (λ k. ToldAt settings moment k (moved_to settings moment hits tables (Some m)).requests) (eqb-true m n h)
+    go true t e = either (ToldAt settings moment n (continued_to settings moment hits tables (Some m)).requests) (m == n) false e
+        (λ h. subst (λ k. ToldAt settings moment k (continued_to settings moment hits tables (Some m)).requests) (eqb-true m n h)
         (told_follows settings moment m (after_hits settings m tables hits) (nth (after_hits settings m tables hits).requests m) refl still t))
         (λ h. absurd (true≢false (sym h)))
 
@@ -384,7 +384,7 @@ told_by_entry settings e g n reported =
     let tables : Tables = tables_of settings g in
     let before : Tables = with_due_replied settings e.moment tables in
     let h : AfterInput = after_input settings e.moment e.input before in
-    let last : Tables = moved_to settings e.moment e.hits h.tables h.continued in
+    let last : Tables = continued_to settings e.moment e.hits h.tables h.continued in
     let same : (keeps settings before e.input last).requests ≡ last.requests = keeps_requests settings before e.input last in
     either (ToldAt settings e.moment n (tables_of settings (e ∷ g)).requests)
     (list_any (is_number n) (due_requests settings tables e.moment))
@@ -395,9 +395,9 @@ told_by_entry settings e g n reported =
     after_part_one settings e.moment tables e.input (ToldAt settings e.moment n) (told_parts settings e.moment n tables e.input) e.hits
     (told_by_part_one settings e.moment n tables.requests here.0 (all_noted settings g) here.1 here.2))
     (λ own.
-    let sound : IsSound (λ rs. Unit {0}) h = sound_heard settings e.moment tables e.input (λ rs. Unit {0}) (nothing_kept settings e.moment tables e.input) e.input refl tt in
+    let sound : IsSound (λ rs. Unit {0}) h = sound_input settings e.moment tables e.input (λ rs. Unit {0}) (nothing_kept settings e.moment tables e.input) e.input refl tt in
     subst (ToldAt settings e.moment n) (sym same)
-    (told_moved settings e.moment n tables e.input e.hits h.tables h.continued sound.continued
+    (reported_continued settings e.moment n tables e.input e.hits h.tables h.continued sound.continued
     (sym (ap (λ rs. list_any (is_number n) (option_to_list (continued_if was_replied rs h.continued))) same) ∙ own)))
 
 pub replies_are_due : RepliesAreDue

@@ -4,7 +4,7 @@ use Rattle.std.specs.List.{list_any}
 use Rattle.std.proofs.lemmas.List.Folds.{list_any-append}
 use Rattle.std.proofs.lemmas.Option.{none-some, same_Some}
 use Rattle.da_tables.proofs.Cases.{by_test, and_first, and_second, not_true}
-use Rattle.da_play.proofs.EntryParts.{HeardParts, MovedParts, IsMade, IsSameConnection, an_entry_gives}
+use Rattle.da_play.proofs.EntryParts.{InputParts, ContinuedParts, IsMade, IsSameConnection, an_entry_gives}
 use Rattle.da_invariants.proofs.OpenQueries.{nowhere}
 use Rattle.da_laws.proofs.RepliedOnce.{times, times-due}
 use Rattle.da_tables.proofs.Rows.{of_changed, of_appended, of_mapped, nth-changed, nth-unchanged, nth-before, nth-past, same_or_not, mapped_value}
@@ -127,8 +127,8 @@ module _ (settings : Settings) (moment : ℕ) (before : Tables) (entered : Input
       go (inl (at, same)) = subst (λ (x : Request). IsOpenAt before.connections x.conn) (sym same) (ap (passes_option (λ c. c.is_open)) m.is_there ∙ m.is_connected)
       go (inr is) = p n r is c
 
-  pub heard_open : HeardParts settings moment before entered (λ tables m. AllOpen tables)
-  heard_open = record {
+  pub input_open : InputParts settings moment before entered (λ tables m. AllOpen tables)
+  input_open = record {
     opens = λ kind random l p. open_elsewhere _ (λ conn o. still_open before.connections _ conn (λ c e. (c, nth-before before.connections _ c conn e, λ x. x)) o) p;
     tells = λ conn change h p. open_elsewhere _ (λ other o. still_open before.connections _ other (λ c e. reported conn other change h c e) o) p;
     ends = λ conn e p. end_open conn p;
@@ -148,8 +148,8 @@ module _ (settings : Settings) (moment : ℕ) (before : Tables) (entered : Input
           go (inl d) = (change c, ap (nth (changed_nth change before.connections conn)) d ∙ nth-changed change before.connections conn ∙ ap (option_map change) (ap (nth before.connections) (sym d) ∙ e), λ o. (h c).is_open ∙ o)
           go (inr d) = (c, nth-unchanged change before.connections conn other d ∙ e, λ o. o)
 
-  pub moved_open : MovedParts settings moment before entered hits open_now open_after
-  moved_open = record {
+  pub continued_open : ContinuedParts settings moment before entered hits open_now open_after
+  continued_open = record {
     hit = λ tables continued number done rest a p is e w u q. changed_open tables.connections (with_answer a.question.db p.0) (answer_keeps a.question.db p.0) tables.requests continued q;
     misses = λ tables continued number done rest e w q. q;
     rests = λ tables q. q;
@@ -174,14 +174,14 @@ all_open settings [] = start_open
 all_open settings (e ∷ g) =
     let before : Tables = with_due_replied settings e.moment (tables_of settings g) in
     an_entry_gives settings (tables_of settings g) e (open_now settings e.moment before e.input e.hits) (open_after settings e.moment before e.input e.hits)
-    (heard_open settings e.moment before e.input e.hits) (moved_open settings e.moment before e.input e.hits) (due_open settings e.moment (tables_of settings g) (all_open settings g))
+    (input_open settings e.moment before e.input e.hits) (continued_open settings e.moment before e.input e.hits) (due_open settings e.moment (tables_of settings g) (all_open settings g))
 
--- ---- the request that moves is on an open connection
+-- ---- the request that continues is on an open connection
 
 module _ (settings : Settings) (origin : Tables) (e : Entry) where
   -- it wasn't cancelled
-  abbrev MoverOpen : Tables → Option ℕ → Type 0
-  MoverOpen tables m = (n : ℕ) → m ≡ Some n → (r : Request) → nth tables.requests n ≡ Some r → r.is_cancelled ≡ false
+  abbrev ContinuedOpen : Tables → Option ℕ → Type 0
+  ContinuedOpen tables m = (n : ℕ) → m ≡ Some n → (r : Request) → nth tables.requests n ≡ Some r → r.is_cancelled ≡ false
 
   abbrev unit_now : Tables → Option ℕ → List ℕ → Type 0
   unit_now tables m done = Unit {0}
@@ -189,8 +189,8 @@ module _ (settings : Settings) (origin : Tables) (e : Entry) where
   abbrev before : Tables
   before = with_due_replied settings e.moment origin
 
-  of_mover : (tables : Tables) (n : ℕ) (r : Request) → nth tables.requests n ≡ Some r → is_undecided r ≡ true → MoverOpen tables (Some n)
-  of_mover tables n r is u k d s x = undecided_uncancelled s (subst (λ (y : Request). is_undecided y ≡ true) (same_Some r s (sym is ∙ ap (nth tables.requests) (same_Some n k d) ∙ x)) u)
+  of_continued : (tables : Tables) (n : ℕ) (r : Request) → nth tables.requests n ≡ Some r → is_undecided r ≡ true → ContinuedOpen tables (Some n)
+  of_continued tables n r is u k d s x = undecided_uncancelled s (subst (λ (y : Request). is_undecided y ≡ true) (same_Some r s (sym is ∙ ap (nth tables.requests) (same_Some n k d) ∙ x)) u)
 
   of_decided : (tables : Tables) (n : ℕ) (r : Request) → nth tables.requests n ≡ Some r → is_undecided r ≡ true → (k : ℕ) → Some n ≡ Some k → (s : Request) →
       nth (changed_nth (with_decision settings e.moment) tables.requests n) k ≡ Some s → s.is_cancelled ≡ false
@@ -205,8 +205,8 @@ module _ (settings : Settings) (origin : Tables) (e : Entry) where
       go (q, at, w) = ap (λ (y : Request). y.is_cancelled) (w ∙ ap (with_decision settings e.moment) (sym (same_Some r q (sym is ∙ at))))
           ∙ same (is_due settings e.moment (record r { decided = Some e.moment })) _ _ refl refl ∙ undecided_uncancelled r u
 
-  heard_unit : HeardParts settings e.moment before e.input (λ tables m. Unit {0})
-  heard_unit = record {
+  input_unit : InputParts settings e.moment before e.input (λ tables m. Unit {0})
+  input_unit = record {
     opens = λ kind random l p. tt;
     tells = λ conn change h p. tt;
     ends = λ conn x p. tt;
@@ -218,19 +218,19 @@ module _ (settings : Settings) (origin : Tables) (e : Entry) where
     lates = λ query given a g is run u p. tt;
   }
 
-  moved_mover : MovedParts settings e.moment before e.input e.hits unit_now MoverOpen
-  moved_mover = record {
+  continued_it : ContinuedParts settings e.moment before e.input e.hits unit_now ContinuedOpen
+  continued_it = record {
     hit = λ tables continued number done rest a p is x w u q. tt;
     misses = λ tables continued number done rest x w q. tt;
     rests = λ tables q n d. absurd (none-some n d);
-    awaits = λ tables n r text is u x q. of_mover tables n r is u;
-    asks = λ tables n r question is u x q. of_mover tables n r is u;
+    awaits = λ tables n r text is u x q. of_continued tables n r is u;
+    asks = λ tables n r question is u x q. of_continued tables n r is u;
     decides = λ tables n r d is u x q. of_decided tables n r is u;
     kept = λ tables m query given a l run is k q. q;
   }
 
-  pub mover_open : MoverOpen (after settings origin e) (after_input settings e.moment e.input before).continued
-  mover_open = an_entry_gives settings origin e unit_now MoverOpen heard_unit moved_mover tt
+  pub continued_open_again : ContinuedOpen (after settings origin e) (after_input settings e.moment e.input before).continued
+  continued_open_again = an_entry_gives settings origin e unit_now ContinuedOpen input_unit continued_it tt
 
 -- ---- the lines of an entry
 
@@ -354,9 +354,9 @@ module _ (settings : Settings) (e : Entry) (g : List Entry) (conn : ℕ) (c : Co
   abbrev continued : Option ℕ
   continued = (after_input settings e.moment e.input (with_due_replied settings e.moment tables)).continued
 
-  mover_silent : (f : ℕ → List (ℕ × Bytes)) → ((n : ℕ) → ((r : Request) → nth final.requests n ≡ Some r → r.conn ≢ conn) → IsSilent (f n)) → (comparison : Request → Bool) →
+  continued_silent : (f : ℕ → List (ℕ × Bytes)) → ((n : ℕ) → ((r : Request) → nth final.requests n ≡ Some r → r.conn ≢ conn) → IsSilent (f n)) → (comparison : Request → Bool) →
       IsSilent (flat_map f (option_to_list (continued_if comparison final.requests continued)))
-  mover_silent f h comparison = go continued (λ n d r at. mover_open settings tables e n d r at)
+  continued_silent f h comparison = go continued (λ n d r at. continued_open_again settings tables e n d r at)
     where
       once : (n : ℕ) → ((r : Request) → nth final.requests n ≡ Some r → r.is_cancelled ≡ false) → (b : Bool) → IsSilent (flat_map f (option_to_list (cond b (Some n) None)))
       once n k true = both_silent (f n) [] (h n (λ r at y. not_open_after (subst (λ (z : ℕ). IsOpenAt final.connections z) y (all_open settings (e ∷ g) n r at (k r at))))) refl
@@ -369,8 +369,8 @@ module _ (settings : Settings) (e : Entry) (g : List Entry) (conn : ℕ) (c : Co
   own_silent : IsSilent (own_lines settings final (effects settings tables e))
   unfolding effects
   own_silent = both_silent _ _
-      (both_silent _ _ (opened_silent e.input) (mover_silent (challenge_lines settings final) challenges_silent (λ r. is_some (challenge_in (request_stage settings r)))))
-      (mover_silent (reply_lines settings final) replies_silent (λ r. is_some r.replied))
+      (both_silent _ _ (opened_silent e.input) (continued_silent (challenge_lines settings final) challenges_silent (λ r. is_some (challenge_in (request_stage settings r)))))
+      (continued_silent (reply_lines settings final) replies_silent (λ r. is_some r.replied))
 
   pub lines_silent : IsSilent (entry_lines settings e g)
   lines_silent = both_silent (due_lines settings final (effects settings tables e)) (own_lines settings final (effects settings tables e)) due_silent own_silent

@@ -149,15 +149,15 @@ on_walk P jumps (db ∷ dbs) name login answers p s k h =
 
 -- ---- a whole login
 
-strict_part : (comparison : Passdb → Bool) (dbs : List Passdb) → AllStrict dbs → AllStrict (filter comparison dbs)
-strict_part comparison [] s = tt
-strict_part comparison (db ∷ dbs) s = by_test (λ ds. AllStrict ds) (comparison db) (db ∷ filter comparison dbs) (filter comparison dbs) (λ e. (s.0, strict_part comparison dbs s.1)) (λ e. strict_part comparison dbs s.1)
+strict_part : (holds : Passdb → Bool) (dbs : List Passdb) → AllStrict dbs → AllStrict (filter holds dbs)
+strict_part holds [] s = tt
+strict_part holds (db ∷ dbs) s = by_test (λ ds. AllStrict ds) (holds db) (db ∷ filter holds dbs) (filter holds dbs) (λ e. (s.0, strict_part holds dbs s.1)) (λ e. strict_part holds dbs s.1)
 
-among_part : (comparison : Passdb → Bool) (db : Passdb) (dbs : List Passdb) → IsAmong db (filter comparison dbs) → IsAmong db dbs
-among_part comparison db [] i = i
-among_part comparison db (d ∷ dbs) i = go (comparison d) (among_part comparison db dbs) i
+among_part : (holds : Passdb → Bool) (db : Passdb) (dbs : List Passdb) → IsAmong db (filter holds dbs) → IsAmong db dbs
+among_part holds db [] i = i
+among_part holds db (d ∷ dbs) i = go (holds d) (among_part holds db dbs) i
   where
-    go : (b : Bool) → (IsAmong db (filter comparison dbs) → IsAmong db dbs) → IsAmong db (cond b (d ∷ filter comparison dbs) (filter comparison dbs)) → (d ≡ db) ⊎ IsAmong db dbs
+    go : (b : Bool) → (IsAmong db (filter holds dbs) → IsAmong db dbs) → IsAmong db (cond b (d ∷ filter holds dbs) (filter holds dbs)) → (d ≡ db) ⊎ IsAmong db dbs
     go true rest (inl e) = inl e
     go true rest (inr j) = inr (rest j)
     go false rest j = inr (rest j)
@@ -176,11 +176,11 @@ chain_success P login authz (Asking db kind name checked) v h e k = absurd (true
 chain_success P login authz (Ended kind p) v h e k = h (ap (done_kind IsFail) e ∙ k)
 chain_success P login authz (Jumped p) v h e k = absurd (not_okay IsFail refl (ap (done_kind IsOkay) e ∙ k))
 
-part_success : (jumps : Bool) (comparison : Passdb → Bool) (dbs : List Passdb) (name : Bytes) (login : Login) (answers : Answers) (p : Progress) → AllStrict dbs →
-    OnProgress (HasSuccess dbs login answers) p → OnWalk (HasSuccess dbs login answers) (walk jumps (filter comparison dbs) name login answers p)
-part_success jumps comparison dbs name login answers p s h =
-    on_walk (HasSuccess dbs login answers) jumps (filter comparison dbs) name login answers p (strict_part comparison dbs s)
-    (λ db i d answer e o. record { db = db; is_there = among_part comparison db dbs i; is_no_deny = d; answer = answer; recorded = e; succeeds = o }) h
+part_success : (jumps : Bool) (holds : Passdb → Bool) (dbs : List Passdb) (name : Bytes) (login : Login) (answers : Answers) (p : Progress) → AllStrict dbs →
+    OnProgress (HasSuccess dbs login answers) p → OnWalk (HasSuccess dbs login answers) (walk jumps (filter holds dbs) name login answers p)
+part_success jumps holds dbs name login answers p s h =
+    on_walk (HasSuccess dbs login answers) jumps (filter holds dbs) name login answers p (strict_part holds dbs s)
+    (λ db i d answer e o. record { db = db; is_there = among_part holds db dbs i; is_no_deny = d; answer = answer; recorded = e; succeeds = o }) h
 
 masters_success : (dbs : List Passdb) (login : Login) (answers : Answers) (w : Walk) (v : Verdict) → AllStrict dbs → OnWalk (HasSuccess dbs login answers) w → after_masters dbs login answers w ≡ Done v → v.kind ≡ IsOkay → HasSuccess dbs login answers
 masters_success dbs login answers (Asking db kind name checked) v s h e k = chain_success _ login false (Asking db kind name checked) v h e k

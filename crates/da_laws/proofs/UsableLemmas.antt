@@ -40,9 +40,9 @@ chosen true x n e = (refl, same_Some x n e)
 chosen false x n e = absurd (none-some n e)
 
 -- a value that passes a test
-passing : {A : Type 0} (comparison : A → Bool) (o : Option A) → passes_option comparison o ≡ true → (x : A) × (o ≡ Some x) × (comparison x ≡ true)
-passing comparison None e = absurd (true≢false (sym e))
-passing comparison (Some x) e = (x, refl, e)
+passing : {A : Type 0} (holds : A → Bool) (o : Option A) → passes_option holds o ≡ true → (x : A) × (o ≡ Some x) × (holds x ≡ true)
+passing holds None e = absurd (true≢false (sym e))
+passing holds (Some x) e = (x, refl, e)
 
 module _ (settings : Settings) (moment : ℕ) (tables : Tables) (r : Request) (q : Question) where
   pub hit_is_usable : (n : ℕ) → hit_for settings moment tables r q ≡ Some n → IsUsable settings moment tables r q n

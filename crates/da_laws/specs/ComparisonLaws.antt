@@ -29,13 +29,13 @@ pub record IsRecordedAnswer (tables : Tables) (input : Input) (question : Questi
   pub is_answer_recorded : recorded_answer question.kind given ≡ answer
 
 -- a use of an answer compares these two, and finds whether they match: a use of the answer that the input records, or of
--- the newest answer that is known within its life
+-- the newest answer that is known within its ttl
 pub record IsCompared (settings : Settings) (moment : ℕ) (tables : Tables) (input : Input) (c : Compared) : Type 0 where
   pub request : Request
   pub question : Question
   pub answer : Answer
-  pub is_check : use_compares settings request question answer ≡ Some c
-  pub is_test : use_comparison settings request question answer ≡ Some (matches c.0 c.1)
+  pub is_compared : use_compares settings request question answer ≡ Some c
+  pub is_comparison : use_comparison settings request question answer ≡ Some (matches c.0 c.1)
   pub is_known : IsRecordedAnswer tables input question answer ⊎ (known_answer settings moment tables question ≡ Some answer)
 
 -- what a use compares is what it tests

@@ -9,7 +9,6 @@ use Rattle.da_tables.specs.Connections.{connection_with, is_used, request_number
 use Rattle.da_tables.specs.declared.connections.Connection.{Connection}
 use Rattle.da_tables.specs.declared.tables.Tables.{Tables}
 
--- the login of a request, where it may still be used
 -- the grant of the login of this number, which serves another request of a master already or not
 abbrev pub login_grant : Settings → ℕ → Bool → ℕ → Request → Option Grant
 login_grant settings moment serves number r =

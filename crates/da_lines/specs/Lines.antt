@@ -8,8 +8,6 @@ use Rattle.da_msgs.specs.declared.client.ClientMsg.TheVariants.{Version, Pid, Au
 use Rattle.da_msgs.specs.declared.master.MasterMsg.{MasterMsg}
 use Rattle.da_msgs.specs.declared.master.MasterMsg.TheVariants.{Version as MasterVersion, Request as MasterRequest, Other as MasterOther}
 use Rattle.da_lines.specs.Grants.{granted}
-use Rattle.da_lines.specs.declared.lines.LineMeaning.{LineMeaning}
-use Rattle.da_lines.specs.declared.lines.LineMeaning.TheVariants.{Client as ClientMessage, Closes, Master as MasterMessage, Ignored}
 use Rattle.da_request.specs.Requests.{cancelled, decision, is_awaiting, is_login_success, is_pending, new_request, with_text}
 use Rattle.da_request.specs.declared.request.Body.TheVariants.{Authenticates, LooksUp}
 use Rattle.da_request.specs.declared.request.Request.{Request}
@@ -83,10 +81,3 @@ abbrev pub line_on : Settings → ℕ → ℕ → Bytes → Bytes → Option Con
 line_on settings moment conn text random None tables = continuing_none tables
 line_on settings moment conn text random (Some c) tables =
     if c.is_open then line_by settings moment conn text random c tables else continuing_none tables
-
--- what a line does, once it is known what that is
-abbrev pub after_meaning : Settings → ℕ → ℕ → Bytes → LineMeaning → Tables → AfterInput
-after_meaning settings moment conn random Ignored tables = continuing_none tables
-after_meaning settings moment conn random Closes tables = closing conn tables
-after_meaning settings moment conn random (ClientMessage message) tables = after_client_message settings moment conn random message tables
-after_meaning settings moment conn random (MasterMessage message) tables = after_master_message settings moment conn random message tables

@@ -4,9 +4,9 @@ ghost use Rattle.std.specs.Prelude.{◌≡◌, ◌<◌, ◌^◌, ◌-◌, IfOk, 
 ghost use Rattle.da_base.specs.Words.{nth};
 ghost use Rattle.da_lines.specs.Grants.{login_grant, grant_for, grant_on, granted};
 
-use da_tables::Tables;
-use da_request::{Grant, Request, row};
+use da_request::{Grant, Request};
 use da_settings::Settings;
+use da_tables::Tables;
 use std::alloc::{AllocError, Global};
 
 /// The grant of the login of this number: where it may still be used, and serves no other request of a master.
@@ -41,7 +41,7 @@ fn grant_for(
 ) -> Result<Option<Grant>, AllocError>
     ensures { IfOk result (λ grant. grant ≡ grant_for settings.now moment tables.now number (nth tables.now.requests number)) }
 {
-    match row(tables.requests.all(), number) {
+    match tables.request(number) {
         Some(request) => {
             let serves = tables.is_used(number);
             login_grant(alloc, settings, moment, serves, number, request)
@@ -63,7 +63,7 @@ fn grant_on(
     requires { length tables.now.requests < 2 ^ 32 - 1 }
     ensures { IfOk result (λ grant. grant ≡ grant_on settings.now moment tables.now client cookie.now conn (nth tables.now.connections conn)) }
 {
-    let Some(connection) = row(tables.connections.all(), conn) else {
+    let Some(connection) = tables.connection(conn) else {
         return Ok(None);
     };
     if connection.cookie.bytes() != cookie {

@@ -2,7 +2,8 @@
 
 ghost use Rattle.std.specs.Prelude.{◌≡◌, ◌<◌, ◌^◌, ◌-◌, IfOk, length, ℕ};
 ghost use Rattle.da_base.specs.Words.{nth, passes_option, Bytes};
-ghost use Rattle.da_lines.specs.Lines.{is_cancellable, continues, cancels, after_client_message, after_master_message, client_line, after_meaning, master_line, line_on};
+ghost use Rattle.da_lines.specs.Bridges.{after_meaning};
+ghost use Rattle.da_lines.specs.Lines.{is_cancellable, continues, cancels, after_client_message, after_master_message, client_line, master_line, line_on};
 ghost use Rattle.da_msgs.specs.ClientMessages.{client_message};
 ghost use Rattle.da_msgs.specs.MasterMessages.{master_message};
 ghost use Rattle.da_request.specs.Requests.{is_awaiting};
@@ -12,7 +13,7 @@ ghost use Rattle.da_tables.specs.Bridges.{with_effect};
 use crate::grants::granted;
 use da_fields::Text;
 use da_msgs::{ClientMsg, MasterMsg};
-use da_request::{Body, Request, new_request, row};
+use da_request::{Body, Request, new_request};
 use da_settings::{Settings, Texts};
 use da_tables::{Connection, InputEffect, Tables};
 use std::alloc::{AllocError, Global};
@@ -38,7 +39,7 @@ fn is_awaiting(
 ) -> Result<bool, AllocError>
     ensures { IfOk result (λ awaiting. awaiting ≡ passes_option (is_awaiting settings.now) (nth tables.now.requests number)) }
 {
-    match row(tables.requests.all(), number) {
+    match tables.request(number) {
         Some(request) => request.is_awaiting(alloc, settings),
         None => Ok(false),
     }
@@ -70,7 +71,7 @@ fn may_cancel(
 ) -> Result<bool, AllocError>
     ensures { IfOk result (λ may. may ≡ passes_option (is_cancellable settings.now tables.now number) (nth tables.now.requests number)) }
 {
-    match row(tables.requests.all(), number) {
+    match tables.request(number) {
         Some(request) => is_cancellable(tables, alloc, settings, number, request),
         None => Ok(false),
     }
@@ -136,7 +137,7 @@ fn apply_client_message(
                 resp,
                 texts,
             };
-            return tables.accepts(new_request(alloc, moment, conn, id, random, body));
+            return tables.add_request(new_request(alloc, moment, conn, id, random, body));
         }
         ClientMsg::Cont { id, text } => {
             let number = tables.request_number(conn, id);
@@ -174,7 +175,7 @@ fn apply_master_message(
         } => {
             let grant = granted(tables, alloc, settings, moment, pid, client, cookie.bytes())?;
             let body = Body::LooksUp(grant);
-            return tables.accepts(new_request(alloc, moment, conn, id, random, body));
+            return tables.add_request(new_request(alloc, moment, conn, id, random, body));
         }
         MasterMsg::Other => {}
     }
@@ -228,11 +229,16 @@ fn master_line_meaning(
 }
 
 /// What a line does.
-fn line_meaning(tables: &Tables, alloc: Global, conn: u32, text: &[u8]) -> Result<LineMeaning, AllocError>
+fn line_meaning(
+    tables: &Tables,
+    alloc: Global,
+    conn: u32,
+    text: &[u8],
+) -> Result<LineMeaning, AllocError>
     requires { length tables.now.requests < 2 ^ 32 - 1 }
     ensures { IfOk result (λ o. (settings : Settings) (moment : ℕ) (random : Bytes) → after_meaning settings moment conn random o tables.now ≡ line_on settings moment conn text.now random (nth tables.now.connections conn) tables.now) }
 {
-    let Some(connection) = row(tables.connections.all(), conn) else {
+    let Some(connection) = tables.connection(conn) else {
         return Ok(LineMeaning::Ignored);
     };
     if !connection.is_open {

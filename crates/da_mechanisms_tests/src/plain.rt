@@ -1,5 +1,5 @@
-use da_plain::*;
 use da_fields::{Said, Text};
+use da_plain::*;
 use std::alloc::{AllocError, Global};
 use std::test::Fail;
 

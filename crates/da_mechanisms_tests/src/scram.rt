@@ -1,6 +1,6 @@
-use da_scram::*;
 use da_fields::{Said, Text};
 use da_schemes::{Scheme, Stored};
+use da_scram::*;
 use std::alloc::{AllocError, Global};
 use std::test::Fail;
 

@@ -1,8 +1,8 @@
 // Runs of a worker over files, an input and an output in memory.
 
-use da_worker::{WorkerStatus, answer_all};
 use da_fields::Text;
 use da_outside::{MemFiles, MemSink, MemSource};
+use da_worker::{WorkerStatus, answer_all};
 use std::alloc::{AllocError, Global};
 use std::test::Fail;
 

@@ -272,7 +272,9 @@ pub fn password_comparison(
     ensures { IfOk result (λ comparison. comparison ≡ password_comparison db.now login.now checked answer.now) }
 {
     match answer {
-        Answer::Found { stored, fields } => comparison_found(alloc, db, login, checked, stored, fields),
+        Answer::Found { stored, fields } => comparison_found(
+            alloc, db, login, checked, stored, fields,
+        ),
         _ => Ok(None),
     }
 }

@@ -80,7 +80,7 @@ pub record EachPartKeeps (settings : Settings) (moment : ℕ) (origin : Tables) 
       Q ((with_due_replied settings moment origin).requests ++ new_request moment conn id random (LooksUp (granted settings moment (with_due_replied settings moment origin) pid client cookie)) ∷ [])
   pub decide : (rs : List Request) (n : ℕ) → IsUndecidedAt rs n → HasDecisionAt settings rs n → Q rs → Q (changed_nth (with_decision settings moment) rs n)
 
--- ---- the request that is moved is undecided
+-- ---- the request that is continued is undecided
 
 slice-changed : {A : Type 0} (f : A → A) (xs : List A) (n : ℕ) → slice_get (changed_at f xs n) n ≡ option_map f (slice_get xs n)
 slice-changed f [] n = refl
@@ -114,8 +114,8 @@ module _ (settings : Settings) (moment : ℕ) (origin : Tables) (entered : Input
   abbrev before : Tables
   before = with_due_replied settings moment origin
 
-  sound_hears : (tables : Tables) → Q tables.requests → IsSound Q (continuing_none tables)
-  sound_hears tables q = record { kept = q; continued = tt }
+  sound_applies : (tables : Tables) → Q tables.requests → IsSound Q (continuing_none tables)
+  sound_applies tables q = record { kept = q; continued = tt }
 
   ended_keeps : (conn : ℕ) (tables : Tables) → Q tables.requests → Q (with_end conn tables).requests
   unfolding with_end
@@ -128,10 +128,10 @@ module _ (settings : Settings) (moment : ℕ) (origin : Tables) (entered : Input
   sound_new tables r u q = record { kept = q; continued = ap (passes_option is_undecided) (slice-last tables.requests r) ∙ u }
 
   -- a test that only undecided requests pass
-  undecided_by : (comparison : Request → Bool) → ((r : Request) → comparison r ≡ true → is_undecided r ≡ true) → (rs : List Request) (n : ℕ) → passes_option comparison (nth rs n) ≡ true → IsUndecidedAt rs n
-  undecided_by comparison h rs n e = go (nth rs n) e
+  undecided_by : (holds : Request → Bool) → ((r : Request) → holds r ≡ true → is_undecided r ≡ true) → (rs : List Request) (n : ℕ) → passes_option holds (nth rs n) ≡ true → IsUndecidedAt rs n
+  undecided_by holds h rs n e = go (nth rs n) e
     where
-      go : (o : Option Request) → passes_option comparison o ≡ true → passes_option is_undecided o ≡ true
+      go : (o : Option Request) → passes_option holds o ≡ true → passes_option is_undecided o ≡ true
       go None e = e
       go (Some r) e = h r e
 
@@ -139,36 +139,36 @@ module _ (settings : Settings) (moment : ℕ) (origin : Tables) (entered : Input
   sound_continues n text tables q = by_test (λ h. IsSound Q h) (passes_option (is_awaiting settings) (nth tables.requests n)) _ (continuing_none tables)
       (λ e. let u : IsUndecidedAt tables.requests n = undecided_by (is_awaiting settings) (λ r w. and_first (is_undecided r) _ w) tables.requests n e in
       record { kept = k.text tables.requests n text u q; continued = still_undecided (with_text text) (λ r. refl) tables.requests n u })
-      (λ e. sound_hears tables q)
+      (λ e. sound_applies tables q)
 
   sound_cancels : (n : ℕ) (tables : Tables) → Q tables.requests → IsSound Q (cancels settings n tables)
   sound_cancels n tables q = by_test (λ h. IsSound Q h) (passes_option (is_cancellable settings tables n) (nth tables.requests n)) _ (continuing_none tables)
-      (λ e. sound_hears (with_request cancelled n tables) (k.cancel tables.requests n q)) (λ e. sound_hears tables q)
+      (λ e. sound_applies (with_request cancelled n tables) (k.cancel tables.requests n q)) (λ e. sound_applies tables q)
 
-  sound_obeys : (conn : ℕ) (random : Bytes) (message : ClientMsg) (tables : Tables) → Q tables.requests → IsSound Q (after_client_message settings moment conn random message tables)
-  sound_obeys conn random (Version major minor) tables q = sound_hears (with_connection (λ c. record c { has_version = true }) conn tables) q
-  sound_obeys conn random (Pid pid) tables q = sound_hears (with_connection (λ c. record c { pid = Some pid }) conn tables) q
-  sound_obeys conn random (Auth id mechanism parameters resp) tables q =
+  sound_client_message : (conn : ℕ) (random : Bytes) (message : ClientMsg) (tables : Tables) → Q tables.requests → IsSound Q (after_client_message settings moment conn random message tables)
+  sound_client_message conn random (Version major minor) tables q = sound_applies (with_connection (λ c. record c { has_version = true }) conn tables) q
+  sound_client_message conn random (Pid pid) tables q = sound_applies (with_connection (λ c. record c { pid = Some pid }) conn tables) q
+  sound_client_message conn random (Auth id mechanism parameters resp) tables q =
       sound_new tables (new_request moment conn id random (Authenticates mechanism parameters resp [])) refl (k.login tables.requests conn id random mechanism parameters resp q)
-  sound_obeys conn random (Cont id text) tables q = sound_continues (request_number tables conn id) text tables q
-  sound_obeys conn random (Cancel id) tables q = sound_cancels (request_number tables conn id) tables q
-  sound_obeys conn random Other tables q = sound_hears tables q
+  sound_client_message conn random (Cont id text) tables q = sound_continues (request_number tables conn id) text tables q
+  sound_client_message conn random (Cancel id) tables q = sound_cancels (request_number tables conn id) tables q
+  sound_client_message conn random Other tables q = sound_applies tables q
 
   sound_client_line : (conn : ℕ) (random : Bytes) (c : Connection) (o : Option ClientMsg) (tables : Tables) → Q tables.requests → IsSound Q (client_line settings moment conn random c o tables)
   sound_client_line conn random c None tables q = sound_closes conn tables q
   sound_client_line conn random c (Some message) tables q = by_test (λ h. IsSound Q h) (client_may tables conn c message) _ (closing conn tables)
-      (λ e. sound_obeys conn random message tables q) (λ e. sound_closes conn tables q)
+      (λ e. sound_client_message conn random message tables q) (λ e. sound_closes conn tables q)
 
-  sound_obeys_master : (conn : ℕ) (random text : Bytes) (message : MasterMsg) → entered ≡ Line conn text random → master_message text ≡ Some message → Q before.requests → IsSound Q (after_master_message settings moment conn random message before)
-  sound_obeys_master conn random text (MasterVersion major minor) l m q = sound_hears (with_connection (λ c. record c { has_version = true }) conn before) q
-  sound_obeys_master conn random text (LookupRequest id pid client cookie) l m q =
+  sound_master_message : (conn : ℕ) (random text : Bytes) (message : MasterMsg) → entered ≡ Line conn text random → master_message text ≡ Some message → Q before.requests → IsSound Q (after_master_message settings moment conn random message before)
+  sound_master_message conn random text (MasterVersion major minor) l m q = sound_applies (with_connection (λ c. record c { has_version = true }) conn before) q
+  sound_master_message conn random text (LookupRequest id pid client cookie) l m q =
       sound_new before (new_request moment conn id random (LooksUp (granted settings moment before pid client cookie))) refl (k.lookup conn id pid client random cookie text l m q)
-  sound_obeys_master conn random text MasterOther l m q = sound_hears before q
+  sound_master_message conn random text MasterOther l m q = sound_applies before q
 
   sound_master_line : (conn : ℕ) (random text : Bytes) (c : Connection) (o : Option MasterMsg) → entered ≡ Line conn text random → master_message text ≡ o → Q before.requests → IsSound Q (master_line settings moment conn random c o before)
   sound_master_line conn random text c None l m q = sound_closes conn before q
   sound_master_line conn random text c (Some message) l m q = by_test (λ h. IsSound Q h) (master_may before conn c message) _ (closing conn before)
-      (λ e. sound_obeys_master conn random text message l m q) (λ e. sound_closes conn before q)
+      (λ e. sound_master_message conn random text message l m q) (λ e. sound_closes conn before q)
 
   sound_line_by : (conn : ℕ) (text random : Bytes) (c : Connection) → entered ≡ Line conn text random → Q before.requests → IsSound Q (line_by settings moment conn text random c before)
   sound_line_by conn text random c l q = by_test (λ h. IsSound Q h) (is_client c.kind) _ _
@@ -176,32 +176,32 @@ module _ (settings : Settings) (moment : ℕ) (origin : Tables) (entered : Input
       (λ d. sound_master_line conn random text c (master_message text) l refl q)
 
   sound_line : (conn : ℕ) (text random : Bytes) (o : Option Connection) → entered ≡ Line conn text random → Q before.requests → IsSound Q (line_on settings moment conn text random o before)
-  sound_line conn text random None l q = sound_hears before q
+  sound_line conn text random None l q = sound_applies before q
   sound_line conn text random (Some c) l q = by_test (λ h. IsSound Q h) c.is_open (line_by settings moment conn text random c before) (continuing_none before)
       (λ e. sound_line_by conn text random c l q)
-      (λ e. sound_hears before q)
+      (λ e. sound_applies before q)
 
   sound_answers : (tables : Tables) (n : ℕ) (a : Question) (answer : Answer) → Q tables.requests → IsSound Q (answers_request n a answer tables)
   sound_answers tables n a answer q = by_test (λ h. IsSound Q h) (passes_option is_undecided (nth tables.requests n)) _ (continuing_none (with_request (with_late_answer a.db answer) n tables))
       (λ e. record { kept = k.answer tables.requests n a.db answer e q; continued = still_undecided (with_answer a.db answer) (λ r. refl) tables.requests n e })
-      (λ e. sound_hears (with_request (with_late_answer a.db answer) n tables) (k.late tables.requests n a.db answer q))
+      (λ e. sound_applies (with_request (with_late_answer a.db answer) n tables) (k.late tables.requests n a.db answer q))
 
   sound_records : (n : ℕ) (answer : Answer) (o : Option QueryRow) (tables : Tables) → Q tables.requests → IsSound Q (after_answer settings moment n answer o tables)
-  sound_records n answer None tables q = sound_hears tables q
+  sound_records n answer None tables q = sound_applies tables q
   sound_records n answer (Some a) tables q = by_test (λ h. IsSound Q h) (is_running a) _ (continuing_none tables)
       (λ e. sound_answers (with_query (answered_by settings moment (nth tables.requests a.request) (recorded_answer a.question.kind answer)) n tables) a.request a.question (recorded_answer a.question.kind answer) q)
-      (λ e. sound_hears tables q)
+      (λ e. sound_applies tables q)
 
-  pub sound_heard : (input : Input) → entered ≡ input → Q before.requests → IsSound Q (after_input settings moment input before)
+  pub sound_input : (input : Input) → entered ≡ input → Q before.requests → IsSound Q (after_input settings moment input before)
   unfolding after_input
-  sound_heard (Opened kind random) l q = sound_hears _ q
-  sound_heard (Line conn text random) l q = sound_line conn text random (nth before.connections conn) l q
-  sound_heard (Broken conn) l q = sound_closes conn before q
-  sound_heard (Gone conn) l q = sound_hears (with_end conn before) (ended_keeps conn before q)
-  sound_heard Take l q = sound_hears _ q
-  sound_heard (Answered query answer) l q = sound_records query answer (nth before.queries query) before q
-  sound_heard (Late query) l q = sound_records query (Internal WasLate) (nth before.queries query) before q
-  sound_heard Tick l q = sound_hears before q
+  sound_input (Opened kind random) l q = sound_applies _ q
+  sound_input (Line conn text random) l q = sound_line conn text random (nth before.connections conn) l q
+  sound_input (Broken conn) l q = sound_closes conn before q
+  sound_input (Gone conn) l q = sound_applies (with_end conn before) (ended_keeps conn before q)
+  sound_input Take l q = sound_applies _ q
+  sound_input (Answered query answer) l q = sound_records query answer (nth before.queries query) before q
+  sound_input (Late query) l q = sound_records query (Internal WasLate) (nth before.queries query) before q
+  sound_input Tick l q = sound_applies before q
 
   -- ---- hits, and what follows for the request
 
@@ -234,15 +234,15 @@ module _ (settings : Settings) (moment : ℕ) (origin : Tables) (entered : Input
       go (Asks q) e = h.kept
       go (Decided d) e = k.decide tables.requests n h.undecided (stage_decides n r d tables.requests is e) h.kept
 
-  sound_moved : (hits : List ℕ) (tables : Tables) (o : Option ℕ) → Q tables.requests → ContinuedUndecided tables.requests o → Q (option_or_else o tables (λ number. after_stage settings moment number (after_hits settings number tables hits))).requests
+  sound_continued : (hits : List ℕ) (tables : Tables) (o : Option ℕ) → Q tables.requests → ContinuedUndecided tables.requests o → Q (option_or_else o tables (λ number. after_stage settings moment number (after_hits settings number tables hits))).requests
   unfolding after_stage
-  sound_moved hits tables None q u = q
-  sound_moved hits tables (Some n) q u = sound_follows n _ (after_hits settings n tables hits) refl (sound_hits n hits tables (record { kept = q; undecided = u }))
+  sound_continued hits tables None q u = q
+  sound_continued hits tables (Some n) q u = sound_follows n _ (after_hits settings n tables hits) refl (sound_hits n hits tables (record { kept = q; undecided = u }))
 
   -- after part one, an entry keeps what each of its parts keeps
   pub after_part_one : (hits : List ℕ) → Q before.requests → Q (after settings origin (record { moment = moment; input = entered; hits = hits })).requests
   unfolding after
   after_part_one hits q =
       let h : AfterInput = after_input settings moment entered before in
-      let s : IsSound Q h = sound_heard entered refl q in
-      subst Q (sym (keeps_requests settings before entered _)) (sound_moved hits h.tables h.continued s.kept s.continued)
+      let s : IsSound Q h = sound_input entered refl q in
+      subst Q (sym (keeps_requests settings before entered _)) (sound_continued hits h.tables h.continued s.kept s.continued)

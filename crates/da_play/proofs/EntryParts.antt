@@ -1,4 +1,4 @@
--- What each part of an entry gives, an entry gives: the parts on all tables, in their order, with the request that moves.
+-- What each part of an entry gives, an entry gives: the parts on all tables, in their order, with the request that continues.
 use Rattle.std.proofs.Common.{◌≡◌, ◌⊎◌, inl, inr, refl, sym, ◌∙◌, ap, subst, Option, Some, None, List, [], ◌∷◌, ◌++◌, ℕ, suc, true, false, length, append_assoc, append-nil, option_map, option_and_then, true≢false}
 use Rattle.da_tables.proofs.Cases.{by_test, and_first}
 use Rattle.da_play.proofs.EntryInduction.{IsUndecidedAt, ContinuedUndecided, still_undecided}
@@ -51,7 +51,7 @@ use Rattle.da_tables.specs.declared.tables.Tables.{Tables}
 -- ---- what the input was
 
 -- a line of an open connection of a client, which spells this message and may stand there
-pub record HearsClient (before : Tables) (entered : Input) (conn : ℕ) (random : Bytes) (message : ClientMsg) : Type 0 where
+pub record ReadsClient (before : Tables) (entered : Input) (conn : ℕ) (random : Bytes) (message : ClientMsg) : Type 0 where
   pub text : Bytes
   pub is_line : entered ≡ Line conn text random
   pub connection : Connection
@@ -62,7 +62,7 @@ pub record HearsClient (before : Tables) (entered : Input) (conn : ℕ) (random 
   pub may : client_may before conn connection message ≡ true
 
 -- the same of a master
-pub record HearsMaster (before : Tables) (entered : Input) (conn : ℕ) (random : Bytes) (message : MasterMsg) : Type 0 where
+pub record ReadsMaster (before : Tables) (entered : Input) (conn : ℕ) (random : Bytes) (message : MasterMsg) : Type 0 where
   pub text : Bytes
   pub is_line : entered ≡ Line conn text random
   pub connection : Connection
@@ -82,12 +82,12 @@ Ends before _ conn = ⊥
 -- a new request with this body: a client's login, or a master's lookup
 abbrev pub MadeLogin : Tables → Input → ℕ → ℕ → Bytes → Body → Type 0
 MadeLogin before entered conn id random body =
-    (mech : Bytes) × (params : Pairs) × (resp : Option Bytes) × HearsClient before entered conn random (Auth id mech params resp)
+    (mech : Bytes) × (params : Pairs) × (resp : Option Bytes) × ReadsClient before entered conn random (Auth id mech params resp)
     × (body ≡ Authenticates mech params resp [])
 
 abbrev pub MadeLookup : Settings → ℕ → Tables → Input → ℕ → ℕ → Bytes → Body → Type 0
 MadeLookup settings moment before entered conn id random body =
-    (pid : ℕ) × (client : ℕ) × (cookie : Bytes) × HearsMaster before entered conn random (LookupRequest id pid client cookie)
+    (pid : ℕ) × (client : ℕ) × (cookie : Bytes) × ReadsMaster before entered conn random (LookupRequest id pid client cookie)
     × (body ≡ LooksUp (granted settings moment before pid client cookie))
 
 pub record IsMade (settings : Settings) (moment : ℕ) (before : Tables) (entered : Input) (conn id : ℕ) (random : Bytes) (body : Body) : Type 0 where
@@ -118,13 +118,13 @@ answer_in o = option_and_then (λ (a : QueryRow). option_map (λ (p : Answer × 
 
 -- ---- the parts
 
--- the input's own effect gives P, a fact on the tables and the request that moves
-pub record HeardParts (settings : Settings) (moment : ℕ) (before : Tables) (entered : Input) (P : Tables → Option ℕ → Type 0) : Type 0 where
+-- the input's own effect gives P, a fact on the tables and the request that continues
+pub record InputParts (settings : Settings) (moment : ℕ) (before : Tables) (entered : Input) (P : Tables → Option ℕ → Type 0) : Type 0 where
   pub opens : (kind : ConnKind) (random : Bytes) → entered ≡ Opened kind random → P before None → P (opened kind random before) None
   pub tells : (conn : ℕ) (change : Connection → Connection) → ((c : Connection) → IsSameConnection c (change c)) → P before None → P (with_connection change conn before) None
   pub ends : (conn : ℕ) → Ends before entered conn → P before None → P (with_end conn before) None
   pub cancels : (n : ℕ) → passes_option (is_cancellable settings before n) (nth before.requests n) ≡ true → P before None → P (with_request cancelled n before) None
-  pub texts : (conn id : ℕ) (random text : Bytes) → HearsClient before entered conn random (Cont id text) →
+  pub texts : (conn id : ℕ) (random text : Bytes) → ReadsClient before entered conn random (Cont id text) →
       (r : Request) → nth before.requests (request_number before conn id) ≡ Some r → is_awaiting settings r ≡ true → P before None →
       P (with_request (with_text text) (request_number before conn id) before) (Some (request_number before conn id))
   pub makes : (conn id : ℕ) (random : Bytes) (body : Body) → IsMade settings moment before entered conn id random body → P before None →
@@ -137,8 +137,8 @@ pub record HeardParts (settings : Settings) (moment : ℕ) (before : Tables) (en
       passes_option is_undecided (nth before.requests a.request) ≡ false → P before None →
       P (with_request (with_late_answer a.question.db (recorded_answer a.question.kind given)) a.request (recorded settings moment before query a given)) None
 
--- hits give Q, a fact on the tables, the request that moves and the hits that it has had, and what follows for it gives R
-pub record MovedParts (settings : Settings) (moment : ℕ) (before : Tables) (entered : Input) (hits : List ℕ) (Q : Tables → Option ℕ → List ℕ → Type 0) (R : Tables → Option ℕ → Type 0) : Type 0 where
+-- hits give Q, a fact on the tables, the request that continues and the hits that it has had, and what follows for it gives R
+pub record ContinuedParts (settings : Settings) (moment : ℕ) (before : Tables) (entered : Input) (hits : List ℕ) (Q : Tables → Option ℕ → List ℕ → Type 0) (R : Tables → Option ℕ → Type 0) : Type 0 where
   pub hit : (tables : Tables) (continued number : ℕ) (done rest : List ℕ) (a : QueryRow) (p : Answer × ℕ) → nth tables.queries number ≡ Some a → a.answer ≡ Some p →
       done ++ number ∷ rest ≡ hits → IsUndecidedAt tables.requests continued → Q tables (Some continued) done → Q (hit_with settings continued number a p.0 tables) (Some continued) (done ++ number ∷ [])
   pub misses : (tables : Tables) (continued number : ℕ) (done rest : List ℕ) → answer_of tables number ≡ None → done ++ number ∷ rest ≡ hits → Q tables (Some continued) done → Q tables (Some continued) (done ++ number ∷ [])
@@ -153,7 +153,7 @@ pub record MovedParts (settings : Settings) (moment : ℕ) (before : Tables) (en
       nth tables.queries query ≡ Some a → is_kept a.question.kind (recorded_answer a.question.kind given) ≡ true → R tables m →
       R (with_kept settings query a.question (recorded_answer a.question.kind given) tables) m
 
-module _ (settings : Settings) (moment : ℕ) (before : Tables) (entered : Input) (P : Tables → Option ℕ → Type 0) (k : HeardParts settings moment before entered P) where
+module _ (settings : Settings) (moment : ℕ) (before : Tables) (entered : Input) (P : Tables → Option ℕ → Type 0) (k : InputParts settings moment before entered P) where
   pub record IsSound (h : AfterInput) : Type 0 where
     pub fact : P h.tables h.continued
     pub continued : ContinuedUndecided h.tables.requests h.continued
@@ -171,7 +171,7 @@ module _ (settings : Settings) (moment : ℕ) (before : Tables) (entered : Input
     continued = ap (passes_option is_undecided) (nth-last before.requests (new_request moment conn id random body));
   }
 
-  sound_continues : (conn id : ℕ) (random text : Bytes) → HearsClient before entered conn random (Cont id text) → P before None →
+  sound_continues : (conn id : ℕ) (random text : Bytes) → ReadsClient before entered conn random (Cont id text) → P before None →
       IsSound (continues settings (request_number before conn id) text before)
   sound_continues conn id random text m p =
       by_test IsSound (passes_option (is_awaiting settings) (nth before.requests (request_number before conn id)))
@@ -190,24 +190,24 @@ module _ (settings : Settings) (moment : ℕ) (before : Tables) (entered : Input
   sound_cancels n p = by_test IsSound (passes_option (is_cancellable settings before n) (nth before.requests n)) (continuing_none (with_request cancelled n before)) (continuing_none before)
       (λ e. quiet (with_request cancelled n before) (k.cancels n e p)) (λ e. quiet before p)
 
-  sound_obeys : (conn : ℕ) (random : Bytes) (message : ClientMsg) → HearsClient before entered conn random message → P before None →
+  sound_client_message : (conn : ℕ) (random : Bytes) (message : ClientMsg) → ReadsClient before entered conn random message → P before None →
       IsSound (after_client_message settings moment conn random message before)
-  sound_obeys conn random (Version major minor) m p = quiet _ (k.tells conn with_version (λ c. record { kind = refl; cookie = refl; is_open = refl }) p)
-  sound_obeys conn random (Pid pid) m p = quiet _ (k.tells conn (with_pid pid) (λ c. record { kind = refl; cookie = refl; is_open = refl }) p)
-  sound_obeys conn random (Auth id mech params resp) m p =
+  sound_client_message conn random (Version major minor) m p = quiet _ (k.tells conn with_version (λ c. record { kind = refl; cookie = refl; is_open = refl }) p)
+  sound_client_message conn random (Pid pid) m p = quiet _ (k.tells conn (with_pid pid) (λ c. record { kind = refl; cookie = refl; is_open = refl }) p)
+  sound_client_message conn random (Auth id mech params resp) m p =
       sound_new conn id random (Authenticates mech params resp [])
       (record { connection = m.connection; is_there = m.is_there; is_connected = m.is_connected; made = inl (mech, params, resp, m, refl) }) p
-  sound_obeys conn random (Cont id text) m p = sound_continues conn id random text m p
-  sound_obeys conn random (Cancel id) m p = sound_cancels (request_number before conn id) p
-  sound_obeys conn random Other m p = quiet before p
+  sound_client_message conn random (Cont id text) m p = sound_continues conn id random text m p
+  sound_client_message conn random (Cancel id) m p = sound_cancels (request_number before conn id) p
+  sound_client_message conn random Other m p = quiet before p
 
-  sound_obeys_master : (conn : ℕ) (random : Bytes) (message : MasterMsg) → HearsMaster before entered conn random message → P before None →
+  sound_master_message : (conn : ℕ) (random : Bytes) (message : MasterMsg) → ReadsMaster before entered conn random message → P before None →
       IsSound (after_master_message settings moment conn random message before)
-  sound_obeys_master conn random (MasterVersion major minor) m p = quiet _ (k.tells conn with_version (λ c. record { kind = refl; cookie = refl; is_open = refl }) p)
-  sound_obeys_master conn random (LookupRequest id pid client cookie) m p =
+  sound_master_message conn random (MasterVersion major minor) m p = quiet _ (k.tells conn with_version (λ c. record { kind = refl; cookie = refl; is_open = refl }) p)
+  sound_master_message conn random (LookupRequest id pid client cookie) m p =
       sound_new conn id random (LooksUp (granted settings moment before pid client cookie))
       (record { connection = m.connection; is_there = m.is_there; is_connected = m.is_connected; made = inr (pid, client, cookie, m, refl) }) p
-  sound_obeys_master conn random MasterOther m p = quiet before p
+  sound_master_message conn random MasterOther m p = quiet before p
 
   line_ends : (conn : ℕ) (text random : Bytes) → entered ≡ Line conn text random → is_open_in before conn ≡ true → Ends before entered conn
   line_ends conn text random l o = subst (λ (i : Input). Ends before i conn) (sym l) (refl, o)
@@ -219,13 +219,13 @@ module _ (settings : Settings) (moment : ℕ) (before : Tables) (entered : Input
     sound_client_line : is_client c.kind ≡ true → (said : Option ClientMsg) → client_message text ≡ said → IsSound (client_line settings moment conn random c said before)
     sound_client_line d None s = closes
     sound_client_line d (Some message) s = by_test IsSound (client_may before conn c message) (after_client_message settings moment conn random message before) (closing conn before)
-        (λ e. sound_obeys conn random message (record { text = text; is_line = l; connection = c; is_there = is; is_connected = o; is_client = d; spells = s; may = e }) p)
+        (λ e. sound_client_message conn random message (record { text = text; is_line = l; connection = c; is_there = is; is_connected = o; is_client = d; spells = s; may = e }) p)
         (λ e. closes)
 
     sound_master_line : is_client c.kind ≡ false → (said : Option MasterMsg) → master_message text ≡ said → IsSound (master_line settings moment conn random c said before)
     sound_master_line d None s = closes
     sound_master_line d (Some message) s = by_test IsSound (master_may before conn c message) (after_master_message settings moment conn random message before) (closing conn before)
-        (λ e. sound_obeys_master conn random message (record { text = text; is_line = l; connection = c; is_there = is; is_connected = o; is_master = d; spells = s; may = e }) p)
+        (λ e. sound_master_message conn random message (record { text = text; is_line = l; connection = c; is_there = is; is_connected = o; is_master = d; spells = s; may = e }) p)
         (λ e. closes)
 
     sound_line_by : IsSound (line_by settings moment conn text random c before)
@@ -255,46 +255,46 @@ module _ (settings : Settings) (moment : ℕ) (before : Tables) (entered : Input
   sound_records query given g (Some a) is p = by_test IsSound (is_running a) (after_answer_for settings moment query a (recorded_answer a.question.kind given) before) (continuing_none before)
       (λ e. sound_answers query given a g is e p) (λ e. quiet before p)
 
-  pub sound_heard : (input : Input) → entered ≡ input → P before None → IsSound (after_input settings moment input before)
+  pub sound_input : (input : Input) → entered ≡ input → P before None → IsSound (after_input settings moment input before)
   unfolding after_input
-  sound_heard (Opened kind random) l p = quiet _ (k.opens kind random l p)
-  sound_heard (Line conn text random) l p = sound_line conn text random l (nth before.connections conn) refl p
-  sound_heard (Broken conn) l p = sound_ends conn (subst (λ (i : Input). Ends before i conn) (sym l) refl) p
-  sound_heard (Gone conn) l p = quiet _ (k.ends conn (subst (λ (i : Input). Ends before i conn) (sym l) refl) p)
-  sound_heard Take l p = quiet _ (k.takes l p)
-  sound_heard (Answered query given) l p = sound_records query given (subst (λ (i : Input). Tells i query given) (sym l) (refl, refl)) (nth before.queries query) refl p
-  sound_heard (Late query) l p = sound_records query (Internal WasLate) (subst (λ (i : Input). Tells i query (Internal WasLate)) (sym l) (refl, refl)) (nth before.queries query) refl p
-  sound_heard Tick l p = quiet before p
+  sound_input (Opened kind random) l p = quiet _ (k.opens kind random l p)
+  sound_input (Line conn text random) l p = sound_line conn text random l (nth before.connections conn) refl p
+  sound_input (Broken conn) l p = sound_ends conn (subst (λ (i : Input). Ends before i conn) (sym l) refl) p
+  sound_input (Gone conn) l p = quiet _ (k.ends conn (subst (λ (i : Input). Ends before i conn) (sym l) refl) p)
+  sound_input Take l p = quiet _ (k.takes l p)
+  sound_input (Answered query given) l p = sound_records query given (subst (λ (i : Input). Tells i query given) (sym l) (refl, refl)) (nth before.queries query) refl p
+  sound_input (Late query) l p = sound_records query (Internal WasLate) (subst (λ (i : Input). Tells i query (Internal WasLate)) (sym l) (refl, refl)) (nth before.queries query) refl p
+  sound_input Tick l p = quiet before p
 
 -- ---- hits, and what follows
 
 module _ (settings : Settings) (moment : ℕ) (before : Tables) (entered : Input) (hits : List ℕ) (Q : Tables → Option ℕ → List ℕ → Type 0) (R : Tables → Option ℕ → Type 0)
-    (k : MovedParts settings moment before entered hits Q R) where
-  record IsMoved (continued : ℕ) (done : List ℕ) (tables : Tables) : Type 0 where
+    (k : ContinuedParts settings moment before entered hits Q R) where
+  record IsContinued (continued : ℕ) (done : List ℕ) (tables : Tables) : Type 0 where
     pub fact : Q tables (Some continued) done
     pub undecided : IsUndecidedAt tables.requests continued
 
   no_answer : (tables : Tables) (number : ℕ) (a : QueryRow) → nth tables.queries number ≡ Some a → a.answer ≡ None → answer_of tables number ≡ None
   no_answer tables number a is e = ap answer_in is ∙ ap (option_map (λ (p : Answer × ℕ). p.0)) e
 
-  sound_hit : (continued number : ℕ) (done rest : List ℕ) (tables : Tables) (o : Option QueryRow) → nth tables.queries number ≡ o → done ++ number ∷ rest ≡ hits → IsMoved continued done tables →
-      IsMoved continued (done ++ number ∷ []) (hit_on settings continued number o tables)
+  sound_hit : (continued number : ℕ) (done rest : List ℕ) (tables : Tables) (o : Option QueryRow) → nth tables.queries number ≡ o → done ++ number ∷ rest ≡ hits → IsContinued continued done tables →
+      IsContinued continued (done ++ number ∷ []) (hit_on settings continued number o tables)
   sound_hit continued number done rest tables None is w h = record { fact = k.misses tables continued number done rest (ap answer_in is) w h.fact; undecided = h.undecided }
   sound_hit continued number done rest tables (Some a) is w h = go a.answer refl
     where
-      go : (o : Option (Answer × ℕ)) → a.answer ≡ o → IsMoved continued (done ++ number ∷ []) (option_or_else o tables (λ p. hit_with settings continued number a p.0 tables))
+      go : (o : Option (Answer × ℕ)) → a.answer ≡ o → IsContinued continued (done ++ number ∷ []) (option_or_else o tables (λ p. hit_with settings continued number a p.0 tables))
       go None e = record { fact = k.misses tables continued number done rest (no_answer tables number a is e) w h.fact; undecided = h.undecided }
       go (Some p) e = record {
         fact = k.hit tables continued number done rest a p is e w h.undecided h.fact;
         undecided = still_undecided (with_answer a.question.db p.0) (λ r. refl) tables.requests continued h.undecided;
       }
 
-  sound_hits : (continued : ℕ) (done ns : List ℕ) (tables : Tables) → done ++ ns ≡ hits → IsMoved continued done tables → IsMoved continued hits (after_hits settings continued tables ns)
-  sound_hits continued done [] tables w h = subst (λ (d : List ℕ). IsMoved continued d tables) (sym (append-nil done) ∙ w) h
+  sound_hits : (continued : ℕ) (done ns : List ℕ) (tables : Tables) → done ++ ns ≡ hits → IsContinued continued done tables → IsContinued continued hits (after_hits settings continued tables ns)
+  sound_hits continued done [] tables w h = subst (λ (d : List ℕ). IsContinued continued d tables) (sym (append-nil done) ∙ w) h
   sound_hits continued done (n ∷ ns) tables w h =
       sound_hits continued (done ++ n ∷ []) ns (after_hit settings continued tables n) (append_assoc done (n ∷ []) ns ∙ w) (sound_hit continued n done ns tables (nth tables.queries n) refl w h)
 
-  sound_follows : (n : ℕ) (o : Option Request) (tables : Tables) → nth tables.requests n ≡ o → IsMoved n hits tables → R (follows_for settings moment n o tables) (Some n)
+  sound_follows : (n : ℕ) (o : Option Request) (tables : Tables) → nth tables.requests n ≡ o → IsContinued n hits tables → R (follows_for settings moment n o tables) (Some n)
   sound_follows n None tables is h = absurd (true≢false (sym h.undecided ∙ ap (passes_option is_undecided) is))
   sound_follows n (Some r) tables is h = go (request_stage settings r) refl
     where
@@ -306,10 +306,10 @@ module _ (settings : Settings) (moment : ℕ) (before : Tables) (entered : Input
       go (Asks q) e = k.asks tables n r q is u e h.fact
       go (Decided d) e = k.decides tables n r d is u e h.fact
 
-  sound_moved : (tables : Tables) (o : Option ℕ) → Q tables o [] → ContinuedUndecided tables.requests o → R (after_continued settings moment hits (record { tables = tables; continued = o; closed = None })) o
+  sound_continued : (tables : Tables) (o : Option ℕ) → Q tables o [] → ContinuedUndecided tables.requests o → R (after_continued settings moment hits (record { tables = tables; continued = o; closed = None })) o
   unfolding after_stage
-  sound_moved tables None p u = k.rests tables p
-  sound_moved tables (Some n) p u = sound_follows n _ (after_hits settings n tables hits) refl (sound_hits n [] hits tables refl (record { fact = p; undecided = u }))
+  sound_continued tables None p u = k.rests tables p
+  sound_continued tables (Some n) p u = sound_follows n _ (after_hits settings n tables hits) refl (sound_hits n [] hits tables refl (record { fact = p; undecided = u }))
 
   sound_kept : (tables : Tables) (m : Option ℕ) (query : ℕ) (given : Answer) → entered ≡ Answered query given → is_running_in before query ≡ true → (o : Option QueryRow) →
       nth tables.queries query ≡ o → R tables m → R (kept_for settings query given o tables) m
@@ -330,17 +330,17 @@ module _ (settings : Settings) (moment : ℕ) (before : Tables) (entered : Input
   sound_keeps tables m Tick l r = r
 
   -- hits, what follows and what is kept together
-  pub moved_gives : (h : AfterInput) → Q h.tables h.continued [] → ContinuedUndecided h.tables.requests h.continued → R (keeps settings before entered (after_continued settings moment hits h)) h.continued
-  moved_gives h q u = sound_keeps (after_continued settings moment hits h) h.continued entered refl (sound_moved h.tables h.continued q u)
+  pub continued_gives : (h : AfterInput) → Q h.tables h.continued [] → ContinuedUndecided h.tables.requests h.continued → R (keeps settings before entered (after_continued settings moment hits h)) h.continued
+  continued_gives h q u = sound_keeps (after_continued settings moment hits h) h.continued entered refl (sound_continued h.tables h.continued q u)
 
 -- what its parts give, an entry gives
 module _ (settings : Settings) (origin : Tables) (e : Entry) (Q : Tables → Option ℕ → List ℕ → Type 0) (R : Tables → Option ℕ → Type 0) where
   abbrev before : Tables
   before = with_due_replied settings e.moment origin
 
-  pub an_entry_gives : HeardParts settings e.moment before e.input (λ tables m. Q tables m []) → MovedParts settings e.moment before e.input e.hits Q R → Q before None [] →
+  pub an_entry_gives : InputParts settings e.moment before e.input (λ tables m. Q tables m []) → ContinuedParts settings e.moment before e.input e.hits Q R → Q before None [] →
       R (after settings origin e) (after_input settings e.moment e.input before).continued
   unfolding after
   an_entry_gives i k q =
-      let s : IsSound settings e.moment before e.input (λ tables m. Q tables m []) i (after_input settings e.moment e.input before) = sound_heard settings e.moment before e.input (λ tables m. Q tables m []) i e.input refl q in
-      moved_gives settings e.moment before e.input e.hits Q R k (after_input settings e.moment e.input before) s.fact s.continued
+      let s : IsSound settings e.moment before e.input (λ tables m. Q tables m []) i (after_input settings e.moment e.input before) = sound_input settings e.moment before e.input (λ tables m. Q tables m []) i e.input refl q in
+      continued_gives settings e.moment before e.input e.hits Q R k (after_input settings e.moment e.input before) s.fact s.continued

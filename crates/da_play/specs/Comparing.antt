@@ -33,7 +33,7 @@ use_compares settings r q answer =
     then option_and_then (λ login. option_and_then (λ db. password_compared db login q.checked answer) (nth settings.passdb q.db)) (login_of settings r)
     else None
 
--- the answer, where it is within its life
+-- the answer, where it is within its ttl
 abbrev pub within_ttl : Settings → ℕ → Answer × ℕ → Option Answer
 within_ttl settings moment p = if not (ttl_of settings p.0 == 0) && nat_le (moment - p.1) (ttl_of settings p.0) then Some p.0 else None
 
@@ -41,7 +41,7 @@ abbrev pub within_ttl_in : Settings → ℕ → Option QueryRow → Option Answe
 within_ttl_in settings moment None = None
 within_ttl_in settings moment (Some a) = option_and_then (within_ttl settings moment) a.answer
 
--- the newest answer to a question whose key is in the cache, within its life
+-- the newest answer to a question whose key is in the cache, within its ttl
 abbrev pub known_answer : Settings → ℕ → Tables → Question → Option Answer
 known_answer settings moment tables q =
     if has_key (key_of q) tables.keys then within_ttl_in settings moment (option_and_then (nth tables.queries) (newest tables (key_of q))) else None
@@ -50,7 +50,7 @@ abbrev pub first_of_two : {A : Type 0} → Option A → Option A → Option A
 first_of_two (Some x) other = Some x
 first_of_two None other = other
 
--- the first check among the questions from here on, each answered by a hit before the next
+-- the first comparison among the questions from here on, each answered by a hit before the next
 abbrev pub compares_from : ℕ → Settings → ℕ → Tables → Request → Option Compared
 compares_from zero settings moment tables r = None
 compares_from (suc databases) settings moment tables r =
@@ -59,7 +59,7 @@ compares_from (suc databases) settings moment tables r =
     (option_and_then (λ number. compares_from databases settings moment tables (with_hit tables q number r)) (hit_for settings moment tables r q)))
     (question_in (request_stage settings r))
 
--- the check of the answer that is recorded
+-- what is compared for the answer that is recorded
 abbrev pub recorded_compares : Settings → Tables → Answer → Option QueryRow → Option Compared
 recorded_compares settings tables answer None = None
 recorded_compares settings tables answer (Some a) =
@@ -75,13 +75,13 @@ abbrev pub compares_after : Settings → ℕ → Tables → AfterInput → Optio
 compares_after settings moment tables h =
     option_and_then (compares_from (database_count settings) settings moment tables) (option_and_then (nth h.tables.requests) h.continued)
 
--- the check of an entry: of the answer that it records, else of the newest answers that its mover asks for
+-- what an entry compares: of the answer that it records, else of the newest answers that its continued request asks for
 unfoldable pub entry_compares : Settings → List Entry → ℕ → Input → Option Compared
 entry_compares settings g moment input =
     let before = with_due_replied settings moment (tables_of settings g) in
     first_of_two (own_compares settings before input) (compares_after settings moment (tables_of settings g) (after_input settings moment input before))
 
--- the check of the entry that an input handed in at m would make, where it isn't refused
+-- what the entry compares that an input handed in at m would make, where it isn't refused
 unfoldable pub hint : Settings → List Entry → ℕ → Input → Option Compared
 hint settings h m input =
     if is_none (refusal settings h (entry_moment h m) input) then entry_compares settings h (entry_moment h m) input else None

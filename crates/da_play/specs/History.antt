@@ -33,7 +33,7 @@ after_input settings moment (Answered query answer) tables = after_answer settin
 after_input settings moment (Late query) tables = after_answer settings moment query (Internal WasLate) (nth tables.queries query) tables
 after_input settings moment Tick tables = continuing_none tables
 
--- ---- part three: what follows for the request that was moved, after its hits
+-- ---- part three: what follows for the request that was continued, after its hits
 
 -- it asks by a query, or is decided, or awaits a message
 abbrev pub follows_from : Settings → ℕ → ℕ → Request → Stage → Tables → Tables
@@ -67,15 +67,15 @@ abbrev pub is_answer_recorded : Tables → Input → Bool
 is_answer_recorded before (Answered query answer) = is_running_in before query
 is_answer_recorded before _ = false
 
--- ---- the state
+-- ---- the tables
 
--- the state after one more entry
+-- the tables after one more entry
 unfoldable pub after : Settings → Tables → Entry → Tables
 after settings tables e =
     let before = with_due_replied settings e.moment tables in
     keeps settings before e.input (after_continued settings e.moment e.hits (after_input settings e.moment e.input before))
 
--- the state at the end of a history
+-- the tables at the end of a history
 abbrev pub tables_of : Settings → List Entry → Tables
 tables_of settings [] = at_start
 tables_of settings (e ∷ g) = after settings (tables_of settings g) e

@@ -83,7 +83,7 @@ is_allowed settings tables moment (Answered query answer) = is_running_in tables
 is_allowed settings tables moment (Late query) = is_running_in tables query && passes_option (λ late. nat_le late moment) (late_from settings tables query)
 is_allowed settings tables moment Tick = true
 
--- an entry that moves no request has no hits
+-- an entry that continues no request has no hits
 abbrev pub ContinuedHits : Settings → ℕ → Tables → Option Request → List ℕ → Type 0
 ContinuedHits settings moment tables None ns = ns ≡ []
 ContinuedHits settings moment tables (Some r) ns = AreHits settings moment tables r ns

@@ -13,7 +13,7 @@ pub struct Effects {
     pub opened: Option<u32>,
     /// The query that is handed out.
     pub handed_out: Option<u32>,
-    /// The request that the entry moves, if it then awaits a message.
+    /// The request that the entry continues, if it then awaits a message.
     pub challenged: Option<u32>,
     /// The request that the entry decides and replies at once.
     pub replied: Option<u32>,

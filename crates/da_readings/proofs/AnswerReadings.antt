@@ -1,7 +1,7 @@
--- The answers of a request are those of its own queries and of its hits; the recordings are the answers that may be kept.
+-- The answers of a request are those of its own queries and of its hits; the cacheable answers are the answers that may be kept.
 use Rattle.std.proofs.Common.{◌≡◌, refl, ◌∙◌, ap, Option, Some, None, [], ◌∷◌, ◌++◌, ℕ, Bool, true, false, cond, ◌&&◌, true≢false}
-use Rattle.da_play.proofs.EntryParts.{HeardParts, MovedParts, IsSound, sound_heard, moved_gives, with_kept}
-use Rattle.da_invariants.proofs.Standing.{heard_stands, moved_stands, all_same}
+use Rattle.da_play.proofs.EntryParts.{InputParts, ContinuedParts, IsSound, sound_input, continued_gives, with_kept}
+use Rattle.da_invariants.proofs.Standing.{input_stands, continued_stands, all_same}
 use Rattle.da_base.specs.Words.{nth, passes_option, option_or_else}
 use Rattle.da_readings.specs.ListReadings.{kept_query, CacheableAreRead}
 use Rattle.da_play.specs.History.{tables_of, after, after_input, after_continued, keeps, kept_for}
@@ -18,7 +18,7 @@ use Rattle.da_tables.specs.declared.queries.QueryRow.{QueryRow}
 use Rattle.da_request.specs.declared.stages.Question.{Question}
 use Rattle.da_tables.specs.declared.tables.Tables.{Tables}
 
--- ---- recordings
+-- ---- cacheable answers
 
 abbrev is_tick : Input → Bool
 is_tick Tick = true
@@ -31,20 +31,20 @@ module _ (settings : Settings) (e : Entry) (origin : Tables) where
   abbrev h : AfterInput
   h = after_input settings e.moment e.input before
 
-  -- nothing is recorded among the recordings yet
+  -- nothing is recorded among the cacheable answers yet
   record Unkept (these : Tables) : Type 0 where
     pub cacheable : these.cacheable ≡ before.cacheable
     pub tables : TablesStand before these
 
-  stand : HeardParts settings e.moment before e.input (λ tables m. TablesStand before tables)
-  stand = heard_stands settings e.moment before before e.input e.hits
+  stand : InputParts settings e.moment before e.input (λ tables m. TablesStand before tables)
+  stand = input_stands settings e.moment before before e.input e.hits
 
   end_same : (conn : ℕ) → (with_end conn before).cacheable ≡ before.cacheable
   unfolding with_end
   end_same conn = refl
 
-  heard_unkept : HeardParts settings e.moment before e.input (λ tables m. Unkept tables)
-  heard_unkept = record {
+  input_unkept : InputParts settings e.moment before e.input (λ tables m. Unkept tables)
+  input_unkept = record {
     opens = λ kind random l p. record { cacheable = p.cacheable; tables = stand.opens kind random l p.tables };
     tells = λ conn change k p. record { cacheable = p.cacheable; tables = stand.tells conn change k p.tables };
     ends = λ conn x p. record { cacheable = end_same conn; tables = stand.ends conn x p.tables };
@@ -57,17 +57,17 @@ module _ (settings : Settings) (e : Entry) (origin : Tables) where
   }
 
   -- what comes before an answer is kept is the same for every input: for a Tick nothing is kept
-  stand_moved : MovedParts settings e.moment before Tick e.hits (λ tables m done. TablesStand before tables) (λ tables m. TablesStand before tables)
-  stand_moved = moved_stands settings e.moment before before Tick e.hits
+  stand_continued : ContinuedParts settings e.moment before Tick e.hits (λ tables m done. TablesStand before tables) (λ tables m. TablesStand before tables)
+  stand_continued = continued_stands settings e.moment before before Tick e.hits
 
-  unkept_moved : MovedParts settings e.moment before Tick e.hits (λ tables m done. Unkept tables) (λ tables m. Unkept tables)
-  unkept_moved = record {
-    hit = λ tables continued number done rest a p is x w u q. record { cacheable = q.cacheable; tables = stand_moved.hit tables continued number done rest a p is x w u q.tables };
+  unkept_continued : ContinuedParts settings e.moment before Tick e.hits (λ tables m done. Unkept tables) (λ tables m. Unkept tables)
+  unkept_continued = record {
+    hit = λ tables continued number done rest a p is x w u q. record { cacheable = q.cacheable; tables = stand_continued.hit tables continued number done rest a p is x w u q.tables };
     misses = λ tables continued number done rest x w q. q;
     rests = λ tables q. q;
     awaits = λ tables n r text is u x q. q;
-    asks = λ tables n r question is u x q. record { cacheable = q.cacheable; tables = stand_moved.asks tables n r question is u x q.tables };
-    decides = λ tables n r d is u x q. record { cacheable = q.cacheable; tables = stand_moved.decides tables n r d is u x q.tables };
+    asks = λ tables n r question is u x q. record { cacheable = q.cacheable; tables = stand_continued.asks tables n r question is u x q.tables };
+    decides = λ tables n r d is u x q. record { cacheable = q.cacheable; tables = stand_continued.decides tables n r d is u x q.tables };
     kept = λ tables m query given a l run is k q. absurd (true≢false (ap is_tick l));
   }
 
@@ -76,8 +76,8 @@ module _ (settings : Settings) (e : Entry) (origin : Tables) where
 
   last_unkept : Unkept last
   last_unkept =
-      let s : IsSound settings e.moment before e.input (λ tables m. Unkept tables) heard_unkept h = sound_heard settings e.moment before e.input (λ tables m. Unkept tables) heard_unkept e.input refl (record { cacheable = refl; tables = all_same before }) in
-      moved_gives settings e.moment before Tick e.hits (λ tables m done. Unkept tables) (λ tables m. Unkept tables) unkept_moved h s.fact s.continued
+      let s : IsSound settings e.moment before e.input (λ tables m. Unkept tables) input_unkept h = sound_input settings e.moment before e.input (λ tables m. Unkept tables) input_unkept e.input refl (record { cacheable = refl; tables = all_same before }) in
+      continued_gives settings e.moment before Tick e.hits (λ tables m done. Unkept tables) (λ tables m. Unkept tables) unkept_continued h s.fact s.continued
 
   keeps_on_top : (tables : Tables) → Unkept tables → (input : Input) → (keeps settings before input tables).cacheable ≡ kept_query before.queries input ++ before.cacheable
   keeps_on_top tables u (Opened kind random) = u.cacheable

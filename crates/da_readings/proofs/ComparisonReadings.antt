@@ -2,18 +2,18 @@
 use Rattle.std.proofs.Common.{◌≡◌, ◌⊎◌, inl, inr, refl, sym, ◌∙◌, ap, ap₂, subst, Option, Some, None, List, [], ◌∷◌, ◌++◌, ℕ, zero, suc, Bool, true, false, cond, option_to_list, option_map, option_and_then, is_some, ◌&&◌, append-nil, append_assoc, ◌==◌, eq-eqb, ne_eqb}
 use Rattle.da_tables.proofs.Cases.{and_second, not_true}
 use Rattle.da_play.proofs.EntryInduction.{ContinuedUndecided}
-use Rattle.da_play.proofs.EntryParts.{HeardParts, MovedParts, IsSound, sound_heard, moved_gives}
+use Rattle.da_play.proofs.EntryParts.{InputParts, ContinuedParts, IsSound, sound_input, continued_gives}
 use Rattle.da_invariants.proofs.KeysLaw.{IsRecorded, told_is_recorded}
 use Rattle.da_invariants.proofs.OpenQueries.{none_there}
-use Rattle.da_invariants.proofs.KnownHits.{IsKnown, AllKnown, one_known, mover_known, known_under, IsSameHit, same_hit, known_stays}
+use Rattle.da_invariants.proofs.KnownHits.{IsKnown, AllKnown, one_known, continued_known, known_under, IsSameHit, same_hit, known_stays}
 use Rattle.da_readings.proofs.OwnAnswers.{told_given, given_of}
 use Rattle.da_tables.proofs.Rows.{same_or_not, nth-changed, nth-unchanged, passing, listed, listed_at, changed_listed, new_listed}
-use Rattle.da_invariants.proofs.Standing.{heard_stands, moved_stands, due_stand, rest_stands, tables_later, all_same}
+use Rattle.da_invariants.proofs.Standing.{input_stands, continued_stands, due_stand, rest_stands, tables_later, all_same}
 use Rattle.da_base.specs.Words.{nth, changed_nth, passes_option, option_or_else}
 use Rattle.da_fields.specs.Answers.{Answers}
 use Rattle.da_fields.specs.declared.answer.Answer.{Answer}
 use Rattle.da_answers.specs.RecordedAnswers.{answer_under}
-use Rattle.da_readings.specs.ListReadings.{told_query, use_by, own_use, own_tests, with_one_hit, hit_use, hit_tests, uses_read, ComparisonsAreRead}
+use Rattle.da_readings.specs.ListReadings.{told_query, use_by, own_use, own_comparisons, with_one_hit, hit_use, hit_comparisons, uses_read, ComparisonsAreRead}
 use Rattle.da_play.specs.History.{tables_of, after, after_input}
 use Rattle.da_tables.specs.Tables.{with_due_replied}
 use Rattle.da_tables.specs.Queries.{as_taken}
@@ -81,12 +81,12 @@ module _ (settings : Settings) (e : Entry) (origin : Tables) where
 
   -- what the own use found of the answer that the input tells
   abbrev fresh : Tables → ℕ → List Bool
-  fresh tables k = option_or_else (told_query e.input) [] (own_tests settings before.requests before.queries tables.queries k)
+  fresh tables k = option_or_else (told_query e.input) [] (own_comparisons settings before.requests before.queries tables.queries k)
 
   unanswered : (a : QueryRow) → is_running a ≡ true → a.answer ≡ None
   unanswered a run = none_there a.answer (not_true (is_some a.answer) (and_second (is_some a.taken) _ run))
 
-  none_own : (k j : ℕ) → own_tests settings before.requests before.queries before.queries k j ≡ []
+  none_own : (k j : ℕ) → own_comparisons settings before.requests before.queries before.queries k j ≡ []
   none_own k j = go (nth before.queries j)
     where
       by_run : (a : QueryRow) (b : Bool) → is_running a ≡ b → cond (b && (j == k)) (own_use settings before.requests (Some a)) [] ≡ []
@@ -100,7 +100,7 @@ module _ (settings : Settings) (e : Entry) (origin : Tables) where
   none_fresh : (k : ℕ) → fresh before k ≡ []
   none_fresh k = go (told_query e.input)
     where
-      go : (o : Option ℕ) → option_or_else o [] (own_tests settings before.requests before.queries before.queries k) ≡ []
+      go : (o : Option ℕ) → option_or_else o [] (own_comparisons settings before.requests before.queries before.queries k) ≡ []
       go None = refl
       go (Some j) = none_own k j
 
@@ -116,22 +116,22 @@ module _ (settings : Settings) (e : Entry) (origin : Tables) where
 
   take_tested : e.input ≡ Take → Tested (record before { queries = changed_nth (as_taken e.moment) before.queries (first_waiting before) })
   take_tested l k = changed_listed tests_of (as_taken e.moment) (λ a. refl) before.queries (first_waiting before) k
-      ∙ sym (ap (λ (o : Option ℕ). option_or_else o [] (own_tests settings before.requests before.queries (changed_nth (as_taken e.moment) before.queries (first_waiting before)) k) ++ tests_at before.queries k) (ap told_query l))
+      ∙ sym (ap (λ (o : Option ℕ). option_or_else o [] (own_comparisons settings before.requests before.queries (changed_nth (as_taken e.moment) before.queries (first_waiting before)) k) ++ tests_at before.queries k) (ap told_query l))
 
   -- an answer is told
   tell_tested : (query : ℕ) (given : Answer) (a : QueryRow) → Tells e.input query given → nth before.queries query ≡ Some a → is_running a ≡ true → (k : ℕ) →
       tests_at (changed_nth (answered_by settings e.moment (nth before.requests a.request) (recorded_answer a.question.kind given)) before.queries query) k
-      ≡ option_or_else (told_query e.input) [] (own_tests settings before.requests before.queries (changed_nth (answered_by settings e.moment (nth before.requests a.request) (recorded_answer a.question.kind given)) before.queries query) k)
+      ≡ option_or_else (told_query e.input) [] (own_comparisons settings before.requests before.queries (changed_nth (answered_by settings e.moment (nth before.requests a.request) (recorded_answer a.question.kind given)) before.queries query) k)
       ++ tests_at before.queries k
   tell_tested query given a t is run k =
       tested_more (answered_by settings e.moment (nth before.requests a.request) (recorded_answer a.question.kind given)) (option_to_list (use_by settings (nth before.requests a.request) a.question (recorded_answer a.question.kind given))) before.queries query a is (tested_is settings (nth before.requests a.request) a.question (recorded_answer a.question.kind given) a.comparisons) k
       ∙ sym (ap (λ (xs : List Bool). xs ++ tests_at before.queries k)
-      (ap (λ (o : Option ℕ). option_or_else o [] (own_tests settings before.requests before.queries (changed_nth (answered_by settings e.moment (nth before.requests a.request) (recorded_answer a.question.kind given)) before.queries query) k)) (told_given e.input query given t)
+      (ap (λ (o : Option ℕ). option_or_else o [] (own_comparisons settings before.requests before.queries (changed_nth (answered_by settings e.moment (nth before.requests a.request) (recorded_answer a.question.kind given)) before.queries query) k)) (told_given e.input query given t)
       ∙ ap (λ (b : Bool). cond (b && (query == k)) (own_use settings before.requests (nth (changed_nth (answered_by settings e.moment (nth before.requests a.request) (recorded_answer a.question.kind given)) before.queries query) query)) []) (ap (passes_option is_running) is ∙ run)
       ∙ ap (λ (o : Option QueryRow). cond (query == k) (own_use settings before.requests o) []) (nth-changed (answered_by settings e.moment (nth before.requests a.request) (recorded_answer a.question.kind given)) before.queries query ∙ ap (option_map (answered_by settings e.moment (nth before.requests a.request) (recorded_answer a.question.kind given))) is)))
 
-  heard_tested : HeardParts settings e.moment before e.input (λ tables m. Tested tables)
-  heard_tested = record {
+  input_tested : InputParts settings e.moment before e.input (λ tables m. Tested tables)
+  input_tested = record {
     opens = λ kind random l p. p;
     tells = λ conn change x p. p;
     ends = λ conn x p. end_tested conn;
@@ -155,34 +155,34 @@ module _ (settings : Settings) (e : Entry) (origin : Tables) where
     done_more r [] n = refl
     done_more r (m ∷ ns) n = done_more (with_one_hit origin.queries r m) ns n
 
-    tests_more : (r : Request) (ns : List ℕ) (n k : ℕ) → hit_tests settings origin.queries r (ns ++ n ∷ []) k ≡ if_at n k (hit_use settings (with_done r ns) (nth origin.queries n)) ++ hit_tests settings origin.queries r ns k
+    tests_more : (r : Request) (ns : List ℕ) (n k : ℕ) → hit_comparisons settings origin.queries r (ns ++ n ∷ []) k ≡ if_at n k (hit_use settings (with_done r ns) (nth origin.queries n)) ++ hit_comparisons settings origin.queries r ns k
     tests_more r [] n k = sym (append-nil _)
     tests_more r (m ∷ ns) n k =
         ap (λ (xs : List Bool). xs ++ if_at m k (hit_use settings r (nth origin.queries m))) (tests_more (with_one_hit origin.queries r m) ns n k)
-        ∙ append_assoc (if_at n k (hit_use settings (with_done r (m ∷ ns)) (nth origin.queries n))) (hit_tests settings origin.queries (with_one_hit origin.queries r m) ns k) (if_at m k (hit_use settings r (nth origin.queries m)))
+        ∙ append_assoc (if_at n k (hit_use settings (with_done r (m ∷ ns)) (nth origin.queries n))) (hit_comparisons settings origin.queries (with_one_hit origin.queries r m) ns k) (if_at m k (hit_use settings r (nth origin.queries m)))
 
-    -- the request that moves, with the answers of the hits that it has had
-    abbrev MoverIs : Tables → Option ℕ → List ℕ → Option Request → Type 0
-    MoverIs tables None done o = Unit {0}
-    MoverIs tables (Some n) done None = ⊥
-    MoverIs tables (Some n) done (Some r) = nth tables.requests n ≡ Some (with_done r done)
+    -- the request that continues, with the answers of the hits that it has had
+    abbrev ContinuedIs : Tables → Option ℕ → List ℕ → Option Request → Type 0
+    ContinuedIs tables None done o = Unit {0}
+    ContinuedIs tables (Some n) done None = ⊥
+    ContinuedIs tables (Some n) done (Some r) = nth tables.requests n ≡ Some (with_done r done)
 
     abbrev row : Option ℕ → Option Request
     row m = option_and_then (nth h.tables.requests) m
 
     abbrev tests_by : Option Request → List ℕ → ℕ → List Bool
-    tests_by o done k = option_or_else o [] (λ r. hit_tests settings origin.queries r done k)
+    tests_by o done k = option_or_else o [] (λ r. hit_comparisons settings origin.queries r done k)
 
     record HitsNow (these : Tables) (m : Option ℕ) (done : List ℕ) : Type 0 where
       pub tables : TablesStand origin these
-      pub continued : MoverIs these m done (row m)
+      pub continued : ContinuedIs these m done (row m)
       pub comparisons : (k : ℕ) → tests_at these.queries k ≡ tests_by (row m) done k ++ tests_at h.tables.queries k
 
     abbrev hits_after : Tables → Option ℕ → Type 0
     hits_after tables m = (k : ℕ) → tests_at tables.queries k ≡ tests_by (row m) e.hits k ++ tests_at h.tables.queries k
 
-    moved_stand : MovedParts settings e.moment before e.input e.hits (λ tables m done. TablesStand origin tables) (λ tables m. TablesStand origin tables)
-    moved_stand = moved_stands settings e.moment origin before e.input e.hits
+    continued_stand : ContinuedParts settings e.moment before e.input e.hits (λ tables m done. TablesStand origin tables) (λ tables m. TablesStand origin tables)
+    continued_stand = continued_stands settings e.moment origin before e.input e.hits
 
     -- a hit's row is the one that was known
     record IsHit (tables : Tables) (number : ℕ) (a : QueryRow) (p : Answer × ℕ) : Type 0 where
@@ -199,30 +199,30 @@ module _ (settings : Settings) (e : Entry) (origin : Tables) where
 
     hit_now : (tables : Tables) (continued number : ℕ) (done rest : List ℕ) (a : QueryRow) (p : Answer × ℕ) → nth tables.queries number ≡ Some a → a.answer ≡ Some p → done ++ number ∷ rest ≡ e.hits →
         TablesStand origin (hit_with settings continued number a p.0 tables) → (o : Option Request) → row (Some continued) ≡ o → HitsNow tables (Some continued) done → HitsNow (hit_with settings continued number a p.0 tables) (Some continued) (done ++ number ∷ [])
-    hit_now tables continued number done rest a p is x w t None d q = absurd (subst (λ (o : Option Request). MoverIs tables (Some continued) done o) d q.continued)
+    hit_now tables continued number done rest a p is x w t None d q = absurd (subst (λ (o : Option Request). ContinuedIs tables (Some continued) done o) d q.continued)
     hit_now tables continued number done rest a p is x w t (Some r) d q = record {
       tables = t;
-      continued = subst (λ (o : Option Request). MoverIs (hit_with settings continued number a p.0 tables) (Some continued) (done ++ number ∷ []) o) (sym d)
+      continued = subst (λ (o : Option Request). ContinuedIs (hit_with settings continued number a p.0 tables) (Some continued) (done ++ number ∷ []) o) (sym d)
           (nth-changed (with_answer a.question.db p.0) tables.requests continued ∙ ap (option_map (with_answer a.question.db p.0)) now
           ∙ ap (λ (xs : Answers). Some (record (with_done r done) { answers = (with_done r done).answers ++ xs })) (sym hit.under) ∙ ap (λ (s : Request). Some s) (sym (done_more r done number)));
       comparisons = λ k. tested_more (used_again (hit_comparison settings p.0 (nth tables.requests continued))) (option_to_list (hit_comparison settings p.0 (nth tables.requests continued))) tables.queries number a is (with_test_is (hit_comparison settings p.0 (nth tables.requests continued)) a.comparisons) k
           ∙ ap₂ (λ (xs ys : List Bool). xs ++ ys)
           (ap (if_at number k) (ap (λ (o : Option Request). option_to_list (hit_comparison settings p.0 o)) now ∙ sym (hit.finds (with_done r done))))
           (q.comparisons k ∙ ap (λ (o : Option Request). tests_by o done k ++ tests_at h.tables.queries k) d)
-          ∙ sym (append_assoc (if_at number k (hit_use settings (with_done r done) (nth origin.queries number))) (hit_tests settings origin.queries r done k) (tests_at h.tables.queries k))
+          ∙ sym (append_assoc (if_at number k (hit_use settings (with_done r done) (nth origin.queries number))) (hit_comparisons settings origin.queries r done k) (tests_at h.tables.queries k))
           ∙ ap (λ (xs : List Bool). xs ++ tests_at h.tables.queries k) (sym (tests_more r done number k))
           ∙ ap (λ (o : Option Request). tests_by o (done ++ number ∷ []) k ++ tests_at h.tables.queries k) (sym d);
     }
       where
         now : nth tables.requests continued ≡ Some (with_done r done)
-        now = subst (λ (o : Option Request). MoverIs tables (Some continued) done o) d q.continued
+        now = subst (λ (o : Option Request). ContinuedIs tables (Some continued) done o) d q.continued
 
         hit : IsHit tables number a p
         hit = is_hit tables number a p is x q.tables (one_known origin done rest number (subst (AllKnown origin) (sym w) known))
 
-    moved_hits : MovedParts settings e.moment before e.input e.hits HitsNow hits_after
-    moved_hits = record {
-      hit = λ tables continued number done rest a p is x w u q. hit_now tables continued number done rest a p is x w (moved_stand.hit tables continued number done rest a p is x w u q.tables) (row (Some continued)) refl q;
+    continued_hits : ContinuedParts settings e.moment before e.input e.hits HitsNow hits_after
+    continued_hits = record {
+      hit = λ tables continued number done rest a p is x w u q. hit_now tables continued number done rest a p is x w (continued_stand.hit tables continued number done rest a p is x w u q.tables) (row (Some continued)) refl q;
       misses = λ tables continued number done rest x w q. absurd (known_stays origin tables number q.tables (one_known origin done rest number (subst (AllKnown origin) (sym w) known)) x);
       rests = λ tables q. q.comparisons;
       awaits = λ tables n r text is u x q. q.comparisons;
@@ -246,7 +246,7 @@ module _ (settings : Settings) (e : Entry) (origin : Tables) where
                 ∙ ap₂ (λ (x : ℕ) (q : Question). option_or_else c.answer [] (λ p. option_to_list (use_by settings (nth before.requests x) q p.0))) (sym s.request) (sym s.question)
                 ∙ sym (ap (own_use settings before.requests) at)
 
-    same_own : (k j : ℕ) → told_query e.input ≡ Some j → own_tests settings before.requests before.queries h.tables.queries k j ≡ own_tests settings before.requests before.queries (after settings origin e).queries k j
+    same_own : (k j : ℕ) → told_query e.input ≡ Some j → own_comparisons settings before.requests before.queries h.tables.queries k j ≡ own_comparisons settings before.requests before.queries (after settings origin e).queries k j
     same_own k j reported = go (nth before.queries j) refl
       where
         by_run : (a : QueryRow) → nth before.queries j ≡ Some a → (b : Bool) → is_running a ≡ b →
@@ -262,7 +262,7 @@ module _ (settings : Settings) (e : Entry) (origin : Tables) where
     fresh_after : (k : ℕ) → fresh h.tables k ≡ fresh (after settings origin e) k
     fresh_after k = go (told_query e.input) refl
       where
-        go : (o : Option ℕ) → told_query e.input ≡ o → option_or_else o [] (own_tests settings before.requests before.queries h.tables.queries k) ≡ option_or_else o [] (own_tests settings before.requests before.queries (after settings origin e).queries k)
+        go : (o : Option ℕ) → told_query e.input ≡ o → option_or_else o [] (own_comparisons settings before.requests before.queries h.tables.queries k) ≡ option_or_else o [] (own_comparisons settings before.requests before.queries (after settings origin e).queries k)
         go None x = refl
         go (Some j) x = same_own k j x
 
@@ -270,19 +270,19 @@ module _ (settings : Settings) (e : Entry) (origin : Tables) where
     no_hits None k = refl
     no_hits (Some r) k = refl
 
-    mover_is : (m : Option ℕ) → ContinuedUndecided h.tables.requests m → MoverIs h.tables m [] (row m)
-    mover_is None u = tt
-    mover_is (Some n) u = go (passing is_undecided (nth h.tables.requests n) u)
+    continued_is : (m : Option ℕ) → ContinuedUndecided h.tables.requests m → ContinuedIs h.tables m [] (row m)
+    continued_is None u = tt
+    continued_is (Some n) u = go (passing is_undecided (nth h.tables.requests n) u)
       where
-        go : (r : Request) × (nth h.tables.requests n ≡ Some r) × (is_undecided r ≡ true) → MoverIs h.tables (Some n) [] (nth h.tables.requests n)
-        go (r, is, w) = subst (λ (o : Option Request). MoverIs h.tables (Some n) [] o) (sym is) is
+        go : (r : Request) × (nth h.tables.requests n ≡ Some r) × (is_undecided r ≡ true) → ContinuedIs h.tables (Some n) [] (nth h.tables.requests n)
+        go (r, is, w) = subst (λ (o : Option Request). ContinuedIs h.tables (Some n) [] o) (sym is) is
 
     entry_tests : (k : ℕ) → tests_at (after settings origin e).queries k ≡ tests_by (row h.continued) e.hits k ++ (fresh (after settings origin e) k ++ tests_at before.queries k)
     unfolding after
     entry_tests k =
-        let s : IsSound settings e.moment before e.input (λ tables m. Tested tables) heard_tested h = sound_heard settings e.moment before e.input (λ tables m. Tested tables) heard_tested e.input refl untouched in
-        moved_gives settings e.moment before e.input e.hits HitsNow hits_after moved_hits h
-        (record { tables = stand; continued = mover_is h.continued s.continued; comparisons = λ j. sym (ap (λ (xs : List Bool). xs ++ tests_at h.tables.queries j) (no_hits (row h.continued) j)) }) s.continued k
+        let s : IsSound settings e.moment before e.input (λ tables m. Tested tables) input_tested h = sound_input settings e.moment before e.input (λ tables m. Tested tables) input_tested e.input refl untouched in
+        continued_gives settings e.moment before e.input e.hits HitsNow hits_after continued_hits h
+        (record { tables = stand; continued = continued_is h.continued s.continued; comparisons = λ j. sym (ap (λ (xs : List Bool). xs ++ tests_at h.tables.queries j) (no_hits (row h.continued) j)) }) s.continued k
         ∙ ap (λ (xs : List Bool). tests_by (row h.continued) e.hits k ++ xs) (s.fact k ∙ ap (λ (xs : List Bool). xs ++ tests_at before.queries k) (fresh_after k))
 
 -- ---- a legal history
@@ -290,23 +290,23 @@ module _ (settings : Settings) (e : Entry) (origin : Tables) where
 one_entry : (settings : Settings) (e : Entry) (tables : Tables) →
     ContinuedHits settings e.moment tables (option_and_then (nth (after_input settings e.moment e.input (with_due_replied settings e.moment tables)).tables.requests) (after_input settings e.moment e.input (with_due_replied settings e.moment tables)).continued) e.hits →
     (k : ℕ) → tests_at (after settings tables e).queries k
-    ≡ option_or_else (option_and_then (nth (after_input settings e.moment e.input (with_due_replied settings e.moment tables)).tables.requests) (after_input settings e.moment e.input (with_due_replied settings e.moment tables)).continued) [] (λ r. hit_tests settings tables.queries r e.hits k)
-    ++ (option_or_else (told_query e.input) [] (own_tests settings (with_due_replied settings e.moment tables).requests tables.queries (after settings tables e).queries k) ++ tests_at tables.queries k)
+    ≡ option_or_else (option_and_then (nth (after_input settings e.moment e.input (with_due_replied settings e.moment tables)).tables.requests) (after_input settings e.moment e.input (with_due_replied settings e.moment tables)).continued) [] (λ r. hit_comparisons settings tables.queries r e.hits k)
+    ++ (option_or_else (told_query e.input) [] (own_comparisons settings (with_due_replied settings e.moment tables).requests tables.queries (after settings tables e).queries k) ++ tests_at tables.queries k)
 unfolding with_due_replied
 one_entry settings e tables hits k =
     let before : Tables = with_due_replied settings e.moment tables in
     let h : AfterInput = after_input settings e.moment e.input before in
     let s : IsSound settings e.moment before e.input (λ x m. TablesStand before x) _ h =
-    sound_heard settings e.moment before e.input (λ x m. TablesStand before x) (heard_stands settings e.moment before before e.input e.hits) e.input refl (all_same before) in
-    entry_tests settings e tables (tables_later tables before h.tables (due_stand settings e.moment tables) s.fact) (mover_known settings e.moment tables _ e.hits hits) k
+    sound_input settings e.moment before e.input (λ x m. TablesStand before x) (input_stands settings e.moment before before e.input e.hits) e.input refl (all_same before) in
+    entry_tests settings e tables (tables_later tables before h.tables (due_stand settings e.moment tables) s.fact) (continued_known settings e.moment tables _ e.hits hits) k
 
 all_tests : (settings : Settings) (h : List Entry) → IsLegal settings h → (k : ℕ) → tests_at (tables_of settings h).queries k ≡ uses_read settings h k
 all_tests settings [] legal zero = refl
 all_tests settings [] legal (suc k) = refl
 all_tests settings (e ∷ g) legal k =
     one_entry settings e (tables_of settings g) legal.1.hits k
-    ∙ ap (λ (xs : List Bool). option_or_else (option_and_then (nth (after_input settings e.moment e.input (with_due_replied settings e.moment (tables_of settings g))).tables.requests) (after_input settings e.moment e.input (with_due_replied settings e.moment (tables_of settings g))).continued) [] (λ r. hit_tests settings (tables_of settings g).queries r e.hits k)
-    ++ (option_or_else (told_query e.input) [] (own_tests settings (with_due_replied settings e.moment (tables_of settings g)).requests (tables_of settings g).queries (after settings (tables_of settings g) e).queries k) ++ xs)) (all_tests settings g legal.0 k)
+    ∙ ap (λ (xs : List Bool). option_or_else (option_and_then (nth (after_input settings e.moment e.input (with_due_replied settings e.moment (tables_of settings g))).tables.requests) (after_input settings e.moment e.input (with_due_replied settings e.moment (tables_of settings g))).continued) [] (λ r. hit_comparisons settings (tables_of settings g).queries r e.hits k)
+    ++ (option_or_else (told_query e.input) [] (own_comparisons settings (with_due_replied settings e.moment (tables_of settings g)).requests (tables_of settings g).queries (after settings (tables_of settings g) e).queries k) ++ xs)) (all_tests settings g legal.0 k)
 
 pub comparisons_are_read : ComparisonsAreRead
 comparisons_are_read settings h legal k a is = sym (ap (listed tests_of) is) ∙ all_tests settings h legal k

@@ -2,9 +2,9 @@
 use Rattle.std.proofs.Common.{◌≡◌, ◌⊎◌, inl, inr, refl, sym, ◌∙◌, ap, ap₂, Option, Some, None, List, [], ◌∷◌, ◌++◌, ℕ, zero, suc, Bool, true, false, length, not, ◌&&◌, ◌||◌, ◌==◌, option_map, eq-eqb, ne_eqb, true≢false}
 use Rattle.std.proofs.lemmas.Bool.{eqb-true}
 use Rattle.da_tables.proofs.Cases.{by_test, and_first, and_second, not_true}
-use Rattle.da_play.proofs.EntryParts.{MovedParts, moved_gives, IsSound, sound_heard}
+use Rattle.da_play.proofs.EntryParts.{ContinuedParts, continued_gives, IsSound, sound_input}
 use Rattle.da_tables.proofs.Rows.{same_or_not, nth-changed, nth-unchanged, nth-last, nth-other}
-use Rattle.da_invariants.proofs.Standing.{heard_stands, all_same}
+use Rattle.da_invariants.proofs.Standing.{input_stands, all_same}
 use Rattle.da_base.specs.Words.{Bytes, nth, changed_nth, passes_option}
 use Rattle.da_fields.specs.declared.answer.Answer.{Answer}
 use Rattle.da_fields.specs.declared.answer.Answer.TheVariants.{Internal}
@@ -108,26 +108,26 @@ module _ (settings : Settings) (moment : ℕ) (before : Tables) where
   leaves_cancels n = by_test Leaves (passes_option (is_cancellable settings before n) (nth before.requests n)) (continuing_none (with_request cancelled n before)) (continuing_none before)
       (λ e. leaves (with_request cancelled n before) None (λ conn. refl)) (λ e. leaves before None (λ conn. refl))
 
-  leaves_obeys : (c : ℕ) (random : Bytes) (message : ClientMsg) → Leaves (after_client_message settings moment c random message before)
-  leaves_obeys c random (Version major minor) = leaves (with_connection with_version c before) None (told_open with_version (λ x. refl) before.connections c)
-  leaves_obeys c random (Pid pid) = leaves (with_connection (with_pid pid) c before) None (told_open (with_pid pid) (λ x. refl) before.connections c)
-  leaves_obeys c random (Auth id mech params resp) = λ conn. sym (and_true (is_open_in before conn))
-  leaves_obeys c random (Cont id text) = leaves_continues (request_number before c id) text
-  leaves_obeys c random (Cancel id) = leaves_cancels (request_number before c id)
-  leaves_obeys c random Other = leaves before None (λ conn. refl)
+  leaves_client_message : (c : ℕ) (random : Bytes) (message : ClientMsg) → Leaves (after_client_message settings moment c random message before)
+  leaves_client_message c random (Version major minor) = leaves (with_connection with_version c before) None (told_open with_version (λ x. refl) before.connections c)
+  leaves_client_message c random (Pid pid) = leaves (with_connection (with_pid pid) c before) None (told_open (with_pid pid) (λ x. refl) before.connections c)
+  leaves_client_message c random (Auth id mech params resp) = λ conn. sym (and_true (is_open_in before conn))
+  leaves_client_message c random (Cont id text) = leaves_continues (request_number before c id) text
+  leaves_client_message c random (Cancel id) = leaves_cancels (request_number before c id)
+  leaves_client_message c random Other = leaves before None (λ conn. refl)
 
-  leaves_obeys_master : (c : ℕ) (random : Bytes) (message : MasterMsg) → Leaves (after_master_message settings moment c random message before)
-  leaves_obeys_master c random (MasterVersion major minor) = leaves (with_connection with_version c before) None (told_open with_version (λ x. refl) before.connections c)
-  leaves_obeys_master c random (LookupRequest id pid client cookie) = λ conn. sym (and_true (is_open_in before conn))
-  leaves_obeys_master c random MasterOther = leaves before None (λ conn. refl)
+  leaves_master_message : (c : ℕ) (random : Bytes) (message : MasterMsg) → Leaves (after_master_message settings moment c random message before)
+  leaves_master_message c random (MasterVersion major minor) = leaves (with_connection with_version c before) None (told_open with_version (λ x. refl) before.connections c)
+  leaves_master_message c random (LookupRequest id pid client cookie) = λ conn. sym (and_true (is_open_in before conn))
+  leaves_master_message c random MasterOther = leaves before None (λ conn. refl)
 
   leaves_client : (c : ℕ) (random : Bytes) (row : Connection) (o : Option ClientMsg) → Leaves (client_line settings moment c random row o before)
   leaves_client c random row None = leaves_closing c
-  leaves_client c random row (Some message) = by_test Leaves (client_may before c row message) (after_client_message settings moment c random message before) (closing c before) (λ e. leaves_obeys c random message) (λ e. leaves_closing c)
+  leaves_client c random row (Some message) = by_test Leaves (client_may before c row message) (after_client_message settings moment c random message before) (closing c before) (λ e. leaves_client_message c random message) (λ e. leaves_closing c)
 
   leaves_master : (c : ℕ) (random : Bytes) (row : Connection) (o : Option MasterMsg) → Leaves (master_line settings moment c random row o before)
   leaves_master c random row None = leaves_closing c
-  leaves_master c random row (Some message) = by_test Leaves (master_may before c row message) (after_master_message settings moment c random message before) (closing c before) (λ e. leaves_obeys_master c random message) (λ e. leaves_closing c)
+  leaves_master c random row (Some message) = by_test Leaves (master_may before c row message) (after_master_message settings moment c random message before) (closing c before) (λ e. leaves_master_message c random message) (λ e. leaves_closing c)
 
   leaves_line : (c : ℕ) (text random : Bytes) (o : Option Connection) → Leaves (line_on settings moment c text random o before)
   leaves_line c text random None = leaves before None (λ conn. refl)
@@ -147,16 +147,16 @@ module _ (settings : Settings) (moment : ℕ) (before : Tables) where
   abbrev OpenAfter : Input → AfterInput → Type 0
   OpenAfter input h = (conn : ℕ) → is_open_in h.tables conn ≡ (names conn (opened_by input before) || (is_open_in before conn && not (ends_by input h.closed conn)))
 
-  open_heard : (input : Input) → OpenAfter input (after_input settings moment input before)
+  open_input : (input : Input) → OpenAfter input (after_input settings moment input before)
   unfolding after_input
-  open_heard (Opened kind random) conn = opened_open before.connections _ conn refl ∙ ap (λ (b : Bool). (suc (length before.connections) == conn) || b) (sym (and_true (is_open_in before conn)))
-  open_heard (Line c text random) conn = leaves_line c text random (nth before.connections c) conn
-  open_heard (Broken c) conn = leaves_closing c conn
-  open_heard (Gone c) conn = leaves_closing c conn
-  open_heard Take conn = leaves (with_query (as_taken moment) (first_waiting before) before) None (λ conn. refl) conn
-  open_heard (Answered query answer) conn = leaves_records query answer (nth before.queries query) conn
-  open_heard (Late query) conn = leaves_records query (Internal WasLate) (nth before.queries query) conn
-  open_heard Tick conn = leaves before None (λ conn. refl) conn
+  open_input (Opened kind random) conn = opened_open before.connections _ conn refl ∙ ap (λ (b : Bool). (suc (length before.connections) == conn) || b) (sym (and_true (is_open_in before conn)))
+  open_input (Line c text random) conn = leaves_line c text random (nth before.connections c) conn
+  open_input (Broken c) conn = leaves_closing c conn
+  open_input (Gone c) conn = leaves_closing c conn
+  open_input Take conn = leaves (with_query (as_taken moment) (first_waiting before) before) None (λ conn. refl) conn
+  open_input (Answered query answer) conn = leaves_records query answer (nth before.queries query) conn
+  open_input (Late query) conn = leaves_records query (Internal WasLate) (nth before.queries query) conn
+  open_input Tick conn = leaves before None (λ conn. refl) conn
 
 -- ---- one entry
 
@@ -173,9 +173,9 @@ module _ (settings : Settings) (e : Entry) (g : List Entry) where
   same_after : Tables → Option ℕ → Type 0
   same_after tables m = tables.connections ≡ h.tables.connections
 
-  moved_same : MovedParts settings e.moment now e.input e.hits same_now same_after
+  continued_same_row : ContinuedParts settings e.moment now e.input e.hits same_now same_after
   unfolding same_now same_after
-  moved_same = record {
+  continued_same_row = record {
     hit = λ tables continued number done rest a p is x w u q. q;
     misses = λ tables continued number done rest x w q. q;
     rests = λ tables q. q;
@@ -189,8 +189,8 @@ module _ (settings : Settings) (e : Entry) (g : List Entry) where
   unfolding after same_now same_after
   connections_after =
       let s : IsSound settings e.moment now e.input (λ x m. TablesStand now x) _ h =
-      sound_heard settings e.moment now e.input (λ x m. TablesStand now x) (heard_stands settings e.moment now now e.input e.hits) e.input refl (all_same now) in
-      moved_gives settings e.moment now e.input e.hits same_now same_after moved_same h refl s.continued
+      sound_input settings e.moment now e.input (λ x m. TablesStand now x) (input_stands settings e.moment now now e.input e.hits) e.input refl (all_same now) in
+      continued_gives settings e.moment now e.input e.hits same_now same_after continued_same_row h refl s.continued
 
   opened_same : (input : Input) → opened_by input now ≡ opened_by input (tables_of settings g)
   unfolding with_due_replied
@@ -205,7 +205,7 @@ module _ (settings : Settings) (e : Entry) (g : List Entry) where
 
   open_step : (conn : ℕ) → is_open_in (tables_of settings (e ∷ g)) conn ≡ (names conn (effects settings (tables_of settings g) e).opened || (is_open_in (tables_of settings g) conn && not (ends settings g e conn)))
   unfolding effects with_due_replied
-  open_step conn = ap (λ cs. open_at cs conn) connections_after ∙ open_heard settings e.moment now e.input conn
+  open_step conn = ap (λ cs. open_at cs conn) connections_after ∙ open_input settings e.moment now e.input conn
       ∙ ap (λ (o : Option ℕ). names conn o || (is_open_in now conn && not (ends_by e.input h.closed conn))) (opened_same e.input)
 
 -- ---- a history

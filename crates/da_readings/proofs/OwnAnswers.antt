@@ -2,18 +2,18 @@
 use Rattle.std.proofs.Common.{◌≡◌, ◌⊎◌, inl, inr, refl, sym, ◌∙◌, ap, ap₂, subst, Option, Some, None, List, [], ◌∷◌, ◌++◌, ℕ, zero, suc, Bool, true, false, cond, map, flat_map, option_map, option_and_then, is_some, ◌&&◌, append-nil, append_assoc, ◌==◌, eq-eqb, ne_eqb}
 use Rattle.std.proofs.lemmas.Option.{none-some, same_Some}
 use Rattle.da_tables.proofs.Cases.{by_test, and_second, not_true}
-use Rattle.da_play.proofs.EntryParts.{HeardParts, MovedParts, IsSound, sound_heard, moved_gives}
+use Rattle.da_play.proofs.EntryParts.{InputParts, ContinuedParts, IsSound, sound_input, continued_gives}
 use Rattle.da_invariants.proofs.KeysLaw.{IsRecorded, told_is_recorded}
-use Rattle.da_invariants.proofs.KnownHits.{IsKnown, AllKnown, one_known, mover_known, known_under, told_row, IsSameHit, same_hit, known_stays}
+use Rattle.da_invariants.proofs.KnownHits.{IsKnown, AllKnown, one_known, continued_known, known_under, told_row, IsSameHit, same_hit, known_stays}
 use Rattle.da_invariants.proofs.OpenQueries.{AllAsked, history_asked, due_all_asked, none_there}
 use Rattle.da_tables.proofs.Rows.{same_or_not, nth-changed, nth-unchanged, passing, listed, listed_at, changed_listed, map_listed, new_listed}
-use Rattle.da_invariants.proofs.Standing.{heard_stands, moved_stands, due_stand, rest_stands, tables_later, all_same}
+use Rattle.da_invariants.proofs.Standing.{input_stands, continued_stands, due_stand, rest_stands, tables_later, all_same}
 use Rattle.da_base.specs.Words.{nth, changed_nth, passes_option, option_or_else}
 use Rattle.da_fields.specs.Answers.{Answers}
 use Rattle.da_fields.specs.declared.answer.Answer.{Answer}
 use Rattle.da_fields.specs.declared.answer.Answer.TheVariants.{Internal}
 use Rattle.da_fields.specs.declared.answer.Why.TheVariants.{Late as WasLate}
-use Rattle.da_readings.specs.ListReadings.{if_moved, told_query, own_answer, answers_read, AnswersAreRead}
+use Rattle.da_readings.specs.ListReadings.{if_continued, told_query, own_answer, answers_read, AnswersAreRead}
 use Rattle.da_answers.specs.RecordedAnswers.{answer_under}
 use Rattle.da_play.specs.History.{tables_of, after, after_input}
 use Rattle.da_tables.specs.Tables.{with_due_replied}
@@ -160,8 +160,8 @@ module _ (settings : Settings) (e : Entry) (origin : Tables) where
       (known_under (changed_nth g before.queries query) query (g a) (answer, w.0) (nth-changed g before.queries query ∙ ap (option_map g) is) w.1 ∙ ap (λ (x : Question). (x.db, answer) ∷ []) q)))
 
   module _ (asked : AllAsked settings before.requests before.queries) where
-    heard_grew : HeardParts settings e.moment before e.input (λ tables m. Grew tables)
-    heard_grew = record {
+    input_grew : InputParts settings e.moment before e.input (λ tables m. Grew tables)
+    input_grew = record {
       opens = λ kind random l p. p;
       tells = λ conn change k p. p;
       ends = λ conn x p. end_grew conn;
@@ -185,7 +185,7 @@ module _ (settings : Settings) (e : Entry) (origin : Tables) where
 
   module _ (stand : TablesStand origin h.tables) (known : AllKnown origin e.hits) where
     abbrev HasHits : Tables → Option ℕ → List ℕ → Type 0
-    HasHits tables m done = (n : ℕ) → answers_at tables.requests n ≡ answers_at h.tables.requests n ++ if_moved m n (flat_map (answer_under origin.queries) done)
+    HasHits tables m done = (n : ℕ) → answers_at tables.requests n ≡ answers_at h.tables.requests n ++ if_continued m n (flat_map (answer_under origin.queries) done)
 
     record HitsNow (these : Tables) (m : Option ℕ) (done : List ℕ) : Type 0 where
       pub tables : TablesStand origin these
@@ -194,8 +194,8 @@ module _ (settings : Settings) (e : Entry) (origin : Tables) where
     abbrev hits_after : Tables → Option ℕ → Type 0
     hits_after tables m = HasHits tables m e.hits
 
-    moved_stand : MovedParts settings e.moment before e.input e.hits (λ tables m done. TablesStand origin tables) (λ tables m. TablesStand origin tables)
-    moved_stand = moved_stands settings e.moment origin before e.input e.hits
+    continued_stand : ContinuedParts settings e.moment before e.input e.hits (λ tables m done. TablesStand origin tables) (λ tables m. TablesStand origin tables)
+    continued_stand = continued_stands settings e.moment origin before e.input e.hits
 
     flat-more : (xs : List ℕ) (k : ℕ) → flat_map (answer_under origin.queries) (xs ++ k ∷ []) ≡ flat_map (answer_under origin.queries) xs ++ answer_under origin.queries k
     flat-more [] k = append-nil (answer_under origin.queries k)
@@ -220,11 +220,11 @@ module _ (settings : Settings) (e : Entry) (origin : Tables) where
         joined true = refl
         joined false = refl
 
-    moved_hits : MovedParts settings e.moment before e.input e.hits HitsNow hits_after
-    moved_hits = record {
+    continued_hits : ContinuedParts settings e.moment before e.input e.hits HitsNow hits_after
+    continued_hits = record {
       hit = λ tables continued number done rest a p is x w u q. record {
-        tables = moved_stand.hit tables continued number done rest a p is x w u q.tables;
-        answers = of_mover tables continued number done rest a p is x w q (passing is_undecided (nth tables.requests continued) u);
+        tables = continued_stand.hit tables continued number done rest a p is x w u q.tables;
+        answers = of_continued tables continued number done rest a p is x w q (passing is_undecided (nth tables.requests continued) u);
       };
       misses = λ tables continued number done rest x w q. absurd (known_stays origin tables number q.tables (one_known origin done rest number (subst (AllKnown origin) (sym w) known)) x);
       rests = λ tables q. none tables q.answers;
@@ -234,9 +234,9 @@ module _ (settings : Settings) (e : Entry) (origin : Tables) where
       kept = λ tables m query given a l run is k q. q;
     }
       where
-        of_mover : (tables : Tables) (continued number : ℕ) (done rest : List ℕ) (a : QueryRow) (p : Answer × ℕ) → nth tables.queries number ≡ Some a → a.answer ≡ Some p → done ++ number ∷ rest ≡ e.hits → HitsNow tables (Some continued) done →
+        of_continued : (tables : Tables) (continued number : ℕ) (done rest : List ℕ) (a : QueryRow) (p : Answer × ℕ) → nth tables.queries number ≡ Some a → a.answer ≡ Some p → done ++ number ∷ rest ≡ e.hits → HitsNow tables (Some continued) done →
             (r : Request) × (nth tables.requests continued ≡ Some r) × (is_undecided r ≡ true) → HasHits (hit_with settings continued number a p.0 tables) (Some continued) (done ++ number ∷ [])
-        of_mover tables continued number done rest a p is x w q (r, at, u) = hit_answers tables continued number done a p (one_known origin done rest number (subst (AllKnown origin) (sym w) known)) is x r at q
+        of_continued tables continued number done rest a p is x w q (r, at, u) = hit_answers tables continued number done a p (one_known origin done rest number (subst (AllKnown origin) (sym w) known)) is x r at q
 
         none : (tables : Tables) → HasHits tables None [] → HasHits tables None e.hits
         none tables q = q
@@ -273,15 +273,15 @@ module _ (settings : Settings) (e : Entry) (origin : Tables) where
         go (Some k) x = still_own k n (told_stands k) x
 
     entry_answers : AllAsked settings before.requests before.queries → (n : ℕ) →
-        answers_at (after settings origin e).requests n ≡ answers_at before.requests n ++ fresh (after settings origin e) n ++ if_moved h.continued n (flat_map (answer_under origin.queries) e.hits)
+        answers_at (after settings origin e).requests n ≡ answers_at before.requests n ++ fresh (after settings origin e) n ++ if_continued h.continued n (flat_map (answer_under origin.queries) e.hits)
     unfolding after
     entry_answers asked n =
-        let s : IsSound settings e.moment before e.input (λ tables m. Grew tables) (heard_grew asked) h = sound_heard settings e.moment before e.input (λ tables m. Grew tables) (heard_grew asked) e.input refl
+        let s : IsSound settings e.moment before e.input (λ tables m. Grew tables) (input_grew asked) h = sound_input settings e.moment before e.input (λ tables m. Grew tables) (input_grew asked) e.input refl
         (λ m. sym (ap (λ xs. answers_at before.requests m ++ xs) (none_fresh m) ∙ append-nil (answers_at before.requests m))) in
-        moved_gives settings e.moment before e.input e.hits HitsNow hits_after moved_hits h (record { tables = stand; answers = λ m. sym (nothing h.continued m) }) s.continued n
-        ∙ ap (λ (xs : Answers). xs ++ if_moved h.continued n (flat_map (answer_under origin.queries) e.hits)) (s.fact n ∙ ap (λ (xs : Answers). answers_at before.requests n ++ xs) (fresh_after n))
+        continued_gives settings e.moment before e.input e.hits HitsNow hits_after continued_hits h (record { tables = stand; answers = λ m. sym (nothing h.continued m) }) s.continued n
+        ∙ ap (λ (xs : Answers). xs ++ if_continued h.continued n (flat_map (answer_under origin.queries) e.hits)) (s.fact n ∙ ap (λ (xs : Answers). answers_at before.requests n ++ xs) (fresh_after n))
       where
-        nothing : (o : Option ℕ) (m : ℕ) → answers_at h.tables.requests m ++ if_moved o m [] ≡ answers_at h.tables.requests m
+        nothing : (o : Option ℕ) (m : ℕ) → answers_at h.tables.requests m ++ if_continued o m [] ≡ answers_at h.tables.requests m
         nothing o m = ap (λ (xs : Answers). answers_at h.tables.requests m ++ xs) (empty (passes_option (λ k. k == m) o)) ∙ append-nil (answers_at h.tables.requests m)
           where
             empty : (b : Bool) → no_answers b ≡ []
@@ -294,15 +294,15 @@ one_entry : (settings : Settings) (e : Entry) (tables : Tables) → AllAsked set
     ContinuedHits settings e.moment tables (option_and_then (nth (after_input settings e.moment e.input (with_due_replied settings e.moment tables)).tables.requests) (after_input settings e.moment e.input (with_due_replied settings e.moment tables)).continued) e.hits →
     (n : ℕ) → answers_at (after settings tables e).requests n
     ≡ answers_at tables.requests n ++ option_or_else (told_query e.input) [] (own_answer tables.queries (after settings tables e).queries n)
-    ++ if_moved (after_input settings e.moment e.input (with_due_replied settings e.moment tables)).continued n (flat_map (answer_under tables.queries) e.hits)
+    ++ if_continued (after_input settings e.moment e.input (with_due_replied settings e.moment tables)).continued n (flat_map (answer_under tables.queries) e.hits)
 unfolding with_due_replied
 one_entry settings e tables asked hits n =
     let before : Tables = with_due_replied settings e.moment tables in
     let h : AfterInput = after_input settings e.moment e.input before in
     let s : IsSound settings e.moment before e.input (λ x m. TablesStand before x) _ h =
-    sound_heard settings e.moment before e.input (λ x m. TablesStand before x) (heard_stands settings e.moment before before e.input e.hits) e.input refl (all_same before) in
-    entry_answers settings e tables (tables_later tables before h.tables (due_stand settings e.moment tables) s.fact) (mover_known settings e.moment tables _ e.hits hits) (due_all_asked settings e.moment tables asked) n
-    ∙ ap (λ (xs : Answers). xs ++ option_or_else (told_query e.input) [] (own_answer tables.queries (after settings tables e).queries n) ++ if_moved h.continued n (flat_map (answer_under tables.queries) e.hits))
+    sound_input settings e.moment before e.input (λ x m. TablesStand before x) (input_stands settings e.moment before before e.input e.hits) e.input refl (all_same before) in
+    entry_answers settings e tables (tables_later tables before h.tables (due_stand settings e.moment tables) s.fact) (continued_known settings e.moment tables _ e.hits hits) (due_all_asked settings e.moment tables asked) n
+    ∙ ap (λ (xs : Answers). xs ++ option_or_else (told_query e.input) [] (own_answer tables.queries (after settings tables e).queries n) ++ if_continued h.continued n (flat_map (answer_under tables.queries) e.hits))
     (map_listed answers_of (replied_if_due settings e.moment) (due_answers settings e tables e.moment) tables.requests n)
 
 all_answers : (settings : Settings) (h : List Entry) → IsLegal settings h → (n : ℕ) → answers_at (tables_of settings h).requests n ≡ answers_read settings h n
@@ -311,7 +311,7 @@ all_answers settings [] legal (suc n) = refl
 all_answers settings (e ∷ g) legal n =
     one_entry settings e (tables_of settings g) (history_asked settings g) legal.1.hits n
     ∙ ap (λ (xs : Answers). xs ++ option_or_else (told_query e.input) [] (own_answer (tables_of settings g).queries (after settings (tables_of settings g) e).queries n)
-    ++ if_moved (after_input settings e.moment e.input (with_due_replied settings e.moment (tables_of settings g))).continued n (flat_map (answer_under (tables_of settings g).queries) e.hits)) (all_answers settings g legal.0 n)
+    ++ if_continued (after_input settings e.moment e.input (with_due_replied settings e.moment (tables_of settings g))).continued n (flat_map (answer_under (tables_of settings g).queries) e.hits)) (all_answers settings g legal.0 n)
 
 pub answers_are_read : AnswersAreRead
 answers_are_read settings h legal n r is = sym (ap (listed answers_of) is) ∙ all_answers settings h legal n

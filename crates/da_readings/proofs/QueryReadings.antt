@@ -2,7 +2,7 @@
 use Rattle.std.proofs.Common.{◌≡◌, ◌⊎◌, inl, inr, refl, sym, ◌∙◌, ap, ap₂, subst, Option, Some, None, List, [], ◌∷◌, ◌++◌, ℕ, zero, suc, true, option_map}
 use Rattle.std.proofs.lemmas.Option.{none-some, same_Some}
 use Rattle.da_readings.proofs.Came.{WasThere, AllCame, came_same, came_changed, came_longer}
-use Rattle.da_play.proofs.EntryParts.{HeardParts, MovedParts, an_entry_gives}
+use Rattle.da_play.proofs.EntryParts.{InputParts, ContinuedParts, an_entry_gives}
 use Rattle.da_invariants.proofs.KeysLaw.{IsRecorded, told_is_recorded}
 use Rattle.da_invariants.proofs.OpenQueries.{nowhere}
 use Rattle.da_tables.proofs.Rows.{nth-changed, passing, number_found, is_listed}
@@ -61,32 +61,32 @@ module _ (settings : Settings) (e : Entry) (origin : Tables) where
     pub taken : TakenCame qs
     pub answered : AnsweredCame qs
 
-  taken_moves : (n : ℕ) (a b : QueryRow) (m : ℕ) → b.question ≡ a.question → NewlyTaken n a m → NewlyTaken n b m
-  taken_moves n a b m q w = w
+  taken_continues : (n : ℕ) (a b : QueryRow) (m : ℕ) → b.question ≡ a.question → NewlyTaken n a m → NewlyTaken n b m
+  taken_continues n a b m q w = w
 
-  answered_moves : (n : ℕ) (a b : QueryRow) (p : Answer × ℕ) → b.question ≡ a.question → NewlyAnswered n a p → NewlyAnswered n b p
-  answered_moves n a b p q (given, t, r, k, m) = (given, t, r, ap (λ x. recorded_answer x.kind given) q ∙ k, m)
+  answered_continues : (n : ℕ) (a b : QueryRow) (p : Answer × ℕ) → b.question ≡ a.question → NewlyAnswered n a p → NewlyAnswered n b p
+  answered_continues n a b p q (given, t, r, k, m) = (given, t, r, ap (λ x. recorded_answer x.kind given) q ∙ k, m)
 
   -- a change that touches neither
   both_changed : (f : QueryRow → QueryRow) → ((a : QueryRow) → (f a).question ≡ a.question) → ((a : QueryRow) → (f a).taken ≡ a.taken) → ((a : QueryRow) → (f a).answer ≡ a.answer) →
       (qs : List QueryRow) (m : ℕ) → BothCame qs → BothCame (changed_nth f qs m)
   both_changed f q t w qs m p = record {
-    taken = came_changed (λ (a : QueryRow). a.taken) KeepsQuestion NewlyTaken origin.queries keeps keeps_on taken_moves f qs m q (λ a x is d. inl (sym (t a) ∙ d)) p.taken;
-    answered = came_changed (λ (a : QueryRow). a.answer) KeepsQuestion NewlyAnswered origin.queries keeps keeps_on answered_moves f qs m q (λ a x is d. inl (sym (w a) ∙ d)) p.answered;
+    taken = came_changed (λ (a : QueryRow). a.taken) KeepsQuestion NewlyTaken origin.queries keeps keeps_on taken_continues f qs m q (λ a x is d. inl (sym (t a) ∙ d)) p.taken;
+    answered = came_changed (λ (a : QueryRow). a.answer) KeepsQuestion NewlyAnswered origin.queries keeps keeps_on answered_continues f qs m q (λ a x is d. inl (sym (w a) ∙ d)) p.answered;
   }
 
   both_taken : e.input ≡ Take → BothCame before.queries → BothCame (changed_nth (as_taken e.moment) before.queries (first_waiting before))
   both_taken l p = record {
-    taken = came_changed (λ (a : QueryRow). a.taken) KeepsQuestion NewlyTaken origin.queries keeps keeps_on taken_moves (as_taken e.moment) before.queries (first_waiting before) (λ a. refl)
+    taken = came_changed (λ (a : QueryRow). a.taken) KeepsQuestion NewlyTaken origin.queries keeps keeps_on taken_continues (as_taken e.moment) before.queries (first_waiting before) (λ a. refl)
         (λ a x is d. inr (l, refl, sym (same_Some e.moment x d))) p.taken;
-    answered = came_changed (λ (a : QueryRow). a.answer) KeepsQuestion NewlyAnswered origin.queries keeps keeps_on answered_moves (as_taken e.moment) before.queries (first_waiting before) (λ a. refl) (λ a x is d. inl d) p.answered;
+    answered = came_changed (λ (a : QueryRow). a.answer) KeepsQuestion NewlyAnswered origin.queries keeps keeps_on answered_continues (as_taken e.moment) before.queries (first_waiting before) (λ a. refl) (λ a x is d. inl d) p.answered;
   }
 
   both_answered : (query : ℕ) (given : Answer) (a : QueryRow) → Tells e.input query given → nth before.queries query ≡ Some a → is_running a ≡ true → BothCame before.queries →
       BothCame (changed_nth (answered_by settings e.moment (nth before.requests a.request) (recorded_answer a.question.kind given)) before.queries query)
   both_answered query given a g is run p = record {
-    taken = came_changed (λ (x : QueryRow). x.taken) KeepsQuestion NewlyTaken origin.queries keeps keeps_on taken_moves (answered_by settings e.moment (nth before.requests a.request) (recorded_answer a.question.kind given)) before.queries query (λ x. refl) (λ x m at d. inl d) p.taken;
-    answered = came_changed (λ (x : QueryRow). x.answer) KeepsQuestion NewlyAnswered origin.queries keeps keeps_on answered_moves (answered_by settings e.moment (nth before.requests a.request) (recorded_answer a.question.kind given)) before.queries query (λ x. refl)
+    taken = came_changed (λ (x : QueryRow). x.taken) KeepsQuestion NewlyTaken origin.queries keeps keeps_on taken_continues (answered_by settings e.moment (nth before.requests a.request) (recorded_answer a.question.kind given)) before.queries query (λ x. refl) (λ x m at d. inl d) p.taken;
+    answered = came_changed (λ (x : QueryRow). x.answer) KeepsQuestion NewlyAnswered origin.queries keeps keeps_on answered_continues (answered_by settings e.moment (nth before.requests a.request) (recorded_answer a.question.kind given)) before.queries query (λ x. refl)
         (λ x y at d. inr (
           given,
           g,
@@ -98,8 +98,8 @@ module _ (settings : Settings) (e : Entry) (origin : Tables) where
 
   both_longer : (qs : List QueryRow) (new : QueryRow) → new.taken ≡ None → new.answer ≡ None → BothCame qs → BothCame (qs ++ new ∷ [])
   both_longer qs new t w p = record {
-    taken = came_longer (λ (a : QueryRow). a.taken) KeepsQuestion NewlyTaken origin.queries keeps keeps_on taken_moves qs new t p.taken;
-    answered = came_longer (λ (a : QueryRow). a.answer) KeepsQuestion NewlyAnswered origin.queries keeps keeps_on answered_moves qs new w p.answered;
+    taken = came_longer (λ (a : QueryRow). a.taken) KeepsQuestion NewlyTaken origin.queries keeps keeps_on taken_continues qs new t p.taken;
+    answered = came_longer (λ (a : QueryRow). a.answer) KeepsQuestion NewlyAnswered origin.queries keeps keeps_on answered_continues qs new w p.answered;
   }
 
   abbrev came_now : Tables → Option ℕ → List ℕ → Type 0
@@ -112,8 +112,8 @@ module _ (settings : Settings) (e : Entry) (origin : Tables) where
   unfolding with_end
   end_came conn p = p
 
-  heard_came : HeardParts settings e.moment before e.input (λ tables m. BothCame tables.queries)
-  heard_came = record {
+  input_came : InputParts settings e.moment before e.input (λ tables m. BothCame tables.queries)
+  input_came = record {
     opens = λ kind random l p. p;
     tells = λ conn change h p. p;
     ends = λ conn x p. end_came conn p;
@@ -125,8 +125,8 @@ module _ (settings : Settings) (e : Entry) (origin : Tables) where
     lates = λ query given a g is run u p. both_answered query given a g is run p;
   }
 
-  moved_came : MovedParts settings e.moment before e.input e.hits came_now came_after
-  moved_came = record {
+  continued_came : ContinuedParts settings e.moment before e.input e.hits came_now came_after
+  continued_came = record {
     hit = λ tables continued number done rest a p is x w u q. both_changed (used_again (hit_comparison settings p.0 (nth tables.requests continued))) (λ a. refl) (λ a. refl) (λ a. refl) tables.queries number q;
     misses = λ tables continued number done rest x w q. q;
     rests = λ tables q. q;
@@ -138,10 +138,10 @@ module _ (settings : Settings) (e : Entry) (origin : Tables) where
 
   start_came : BothCame before.queries
   unfolding with_due_replied
-  start_came = record { taken = came_same (λ (a : QueryRow). a.taken) KeepsQuestion NewlyTaken origin.queries keeps keeps_on taken_moves; answered = came_same (λ (a : QueryRow). a.answer) KeepsQuestion NewlyAnswered origin.queries keeps keeps_on answered_moves }
+  start_came = record { taken = came_same (λ (a : QueryRow). a.taken) KeepsQuestion NewlyTaken origin.queries keeps keeps_on taken_continues; answered = came_same (λ (a : QueryRow). a.answer) KeepsQuestion NewlyAnswered origin.queries keeps keeps_on answered_continues }
 
   entry_came : BothCame (after settings origin e).queries
-  entry_came = an_entry_gives settings origin e came_now came_after heard_came moved_came start_came
+  entry_came = an_entry_gives settings origin e came_now came_after input_came continued_came start_came
 
   -- part one of an entry leaves the queries as they are
   same_running : (n : ℕ) → is_running_in before n ≡ is_running_in origin n

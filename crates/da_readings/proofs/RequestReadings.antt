@@ -3,11 +3,11 @@ use Rattle.std.proofs.Common.{◌≡◌, ◌⊎◌, inl, inr, refl, sym, ◌∙�
 use Rattle.std.proofs.lemmas.Option.{none-some, same_Some}
 use Rattle.da_readings.proofs.Came.{WasThere, AllCame, came_same, came_changed, came_mapped, came_longer}
 use Rattle.da_tables.proofs.Cases.{by_test, and_first, and_second, not_true}
-use Rattle.da_play.proofs.EntryParts.{HeardParts, MovedParts, an_entry_gives}
+use Rattle.da_play.proofs.EntryParts.{InputParts, ContinuedParts, an_entry_gives}
 use Rattle.da_laws.proofs.Noted.{history_noted}
 use Rattle.da_invariants.proofs.OpenQueries.{nowhere, none_there}
 use Rattle.da_readings.proofs.QueryReadings.{later_among}
-use Rattle.da_invariants.proofs.Standing.{heard_stands, moved_stands, due_stand, undecided_is}
+use Rattle.da_invariants.proofs.Standing.{input_stands, continued_stands, due_stand, undecided_is}
 use Rattle.da_base.specs.Words.{nth, changed_nth}
 use Rattle.da_fields.specs.declared.answer.Answer.{Answer}
 use Rattle.da_play.specs.History.{tables_of, after}
@@ -52,11 +52,11 @@ module _ (settings : Settings) (e : Entry) (origin : Tables) where
   any_on : (a b c : Request) → AnyRow a b → AnyRow b c → AnyRow a c
   any_on a b c p q = tt
 
-  decided_moves : (n : ℕ) (a b : Request) (m : ℕ) → AnyRow b a → NewlyDecided n a m → NewlyDecided n b m
-  decided_moves n a b m q w = w
+  decided_continues : (n : ℕ) (a b : Request) (m : ℕ) → AnyRow b a → NewlyDecided n a m → NewlyDecided n b m
+  decided_continues n a b m q w = w
 
-  replied_moves : (n : ℕ) (a b : Request) (m : ℕ) → AnyRow b a → NewlyReplied n a m → NewlyReplied n b m
-  replied_moves n a b m q w = w
+  replied_continues : (n : ℕ) (a b : Request) (m : ℕ) → AnyRow b a → NewlyReplied n a m → NewlyReplied n b m
+  replied_continues n a b m q w = w
 
   record BothCame (rs : List Request) : Type 0 where
     pub decided : AllCame (λ (r : Request). r.decided) AnyRow NewlyDecided origin.requests rs
@@ -69,14 +69,14 @@ module _ (settings : Settings) (e : Entry) (origin : Tables) where
 
   both_changed : (f : Request → Request) → ((r : Request) → Touches r (f r)) → (rs : List Request) (m : ℕ) → BothCame rs → BothCame (changed_nth f rs m)
   both_changed f h rs m p = record {
-    decided = came_changed (λ (r : Request). r.decided) AnyRow NewlyDecided origin.requests any any_on decided_moves f rs m (λ r. tt) (λ r x is d. inl (sym (h r).decided ∙ d)) p.decided;
-    replied = came_changed (λ (r : Request). r.replied) AnyRow NewlyReplied origin.requests any any_on replied_moves f rs m (λ r. tt) (λ r x is d. inl (sym (h r).replied ∙ d)) p.replied;
+    decided = came_changed (λ (r : Request). r.decided) AnyRow NewlyDecided origin.requests any any_on decided_continues f rs m (λ r. tt) (λ r x is d. inl (sym (h r).decided ∙ d)) p.decided;
+    replied = came_changed (λ (r : Request). r.replied) AnyRow NewlyReplied origin.requests any any_on replied_continues f rs m (λ r. tt) (λ r x is d. inl (sym (h r).replied ∙ d)) p.replied;
   }
 
   both_longer : (rs : List Request) (new : Request) → new.decided ≡ None → new.replied ≡ None → BothCame rs → BothCame (rs ++ new ∷ [])
   both_longer rs new d w p = record {
-    decided = came_longer (λ (r : Request). r.decided) AnyRow NewlyDecided origin.requests any any_on decided_moves rs new d p.decided;
-    replied = came_longer (λ (r : Request). r.replied) AnyRow NewlyReplied origin.requests any any_on replied_moves rs new w p.replied;
+    decided = came_longer (λ (r : Request). r.decided) AnyRow NewlyDecided origin.requests any any_on decided_continues rs new d p.decided;
+    replied = came_longer (λ (r : Request). r.replied) AnyRow NewlyReplied origin.requests any any_on replied_continues rs new w p.replied;
   }
 
   late_touches : (db : ℕ) (answer : Answer) (r : Request) → Touches r (with_late_answer db answer r)
@@ -88,8 +88,8 @@ module _ (settings : Settings) (e : Entry) (origin : Tables) where
   end_came : (conn : ℕ) → BothCame before.requests → BothCame (with_end conn before).requests
   unfolding with_end
   end_came conn p = record {
-    decided = came_mapped (λ (r : Request). r.decided) AnyRow NewlyDecided origin.requests any any_on decided_moves (as_cancelled_of conn) before.requests (λ r. tt) (λ n r x is d. inl (sym (cancelled_of_touches conn r).decided ∙ d)) p.decided;
-    replied = came_mapped (λ (r : Request). r.replied) AnyRow NewlyReplied origin.requests any any_on replied_moves (as_cancelled_of conn) before.requests (λ r. tt) (λ n r x is d. inl (sym (cancelled_of_touches conn r).replied ∙ d)) p.replied;
+    decided = came_mapped (λ (r : Request). r.decided) AnyRow NewlyDecided origin.requests any any_on decided_continues (as_cancelled_of conn) before.requests (λ r. tt) (λ n r x is d. inl (sym (cancelled_of_touches conn r).decided ∙ d)) p.decided;
+    replied = came_mapped (λ (r : Request). r.replied) AnyRow NewlyReplied origin.requests any any_on replied_continues (as_cancelled_of conn) before.requests (λ r. tt) (λ n r x is d. inl (sym (cancelled_of_touches conn r).replied ∙ d)) p.replied;
   }
 
   record CameNow (these : Tables) : Type 0 where
@@ -102,14 +102,14 @@ module _ (settings : Settings) (e : Entry) (origin : Tables) where
   abbrev came_after : Tables → Option ℕ → Type 0
   came_after tables m = BothCame tables.requests
 
-  stand : HeardParts settings e.moment before e.input (λ tables m. TablesStand origin tables)
-  stand = heard_stands settings e.moment origin before e.input e.hits
+  stand : InputParts settings e.moment before e.input (λ tables m. TablesStand origin tables)
+  stand = input_stands settings e.moment origin before e.input e.hits
 
-  stand_moved : MovedParts settings e.moment before e.input e.hits (λ tables m done. TablesStand origin tables) (λ tables m. TablesStand origin tables)
-  stand_moved = moved_stands settings e.moment origin before e.input e.hits
+  stand_continued : ContinuedParts settings e.moment before e.input e.hits (λ tables m done. TablesStand origin tables) (λ tables m. TablesStand origin tables)
+  stand_continued = continued_stands settings e.moment origin before e.input e.hits
 
-  heard_came : HeardParts settings e.moment before e.input (λ tables m. CameNow tables)
-  heard_came = record {
+  input_came : InputParts settings e.moment before e.input (λ tables m. CameNow tables)
+  input_came = record {
     opens = λ kind random l p. record { tables = stand.opens kind random l p.tables; came = p.came };
     tells = λ conn change h p. record { tables = stand.tells conn change h p.tables; came = p.came };
     ends = λ conn x p. record { tables = stand.ends conn x p.tables; came = end_came conn p.came };
@@ -147,9 +147,9 @@ module _ (settings : Settings) (e : Entry) (origin : Tables) where
 
     decision_came : BothCame (changed_nth (with_decision settings e.moment) tables.requests n)
     decision_came = record {
-      decided = came_changed (λ (x : Request). x.decided) AnyRow NewlyDecided origin.requests any any_on decided_moves (with_decision settings e.moment) tables.requests n (λ r. tt)
+      decided = came_changed (λ (x : Request). x.decided) AnyRow NewlyDecided origin.requests any any_on decided_continues (with_decision settings e.moment) tables.requests n (λ r. tt)
           (λ s x at d. inr (newly_decided x (same_Some x e.moment (sym d ∙ noted s)))) p.came.decided;
-      replied = came_changed (λ (x : Request). x.replied) AnyRow NewlyReplied origin.requests any any_on replied_moves (with_decision settings e.moment) tables.requests n (λ r. tt) (λ s x at d. reported s x d) p.came.replied;
+      replied = came_changed (λ (x : Request). x.replied) AnyRow NewlyReplied origin.requests any any_on replied_continues (with_decision settings e.moment) tables.requests n (λ r. tt) (λ s x at d. reported s x d) p.came.replied;
     }
       where
         noted : (s : Request) → (with_decision settings e.moment s).decided ≡ Some e.moment
@@ -160,9 +160,9 @@ module _ (settings : Settings) (e : Entry) (origin : Tables) where
             (record s { decided = Some e.moment; replied = Some e.moment }) (record s { decided = Some e.moment })
             (λ y d. inr (newly_replied x (sym (same_Some e.moment x d)))) (λ y d. inl d)
 
-  moved_came : MovedParts settings e.moment before e.input e.hits came_now came_after
-  moved_came = record {
-    hit = λ tables continued number done rest a p is x w u q. record { tables = stand_moved.hit tables continued number done rest a p is x w u q.tables; came = both_changed (with_answer a.question.db p.0) (λ r. record { decided = refl; replied = refl }) tables.requests continued q.came };
+  continued_came : ContinuedParts settings e.moment before e.input e.hits came_now came_after
+  continued_came = record {
+    hit = λ tables continued number done rest a p is x w u q. record { tables = stand_continued.hit tables continued number done rest a p is x w u q.tables; came = both_changed (with_answer a.question.db p.0) (λ r. record { decided = refl; replied = refl }) tables.requests continued q.came };
     misses = λ tables continued number done rest x w q. q;
     rests = λ tables q. q.came;
     awaits = λ tables n r text is u x q. q.came;
@@ -174,9 +174,9 @@ module _ (settings : Settings) (e : Entry) (origin : Tables) where
   due_came : BothCame before.requests
   unfolding with_due_replied is_due
   due_came = record {
-    decided = came_mapped (λ (r : Request). r.decided) AnyRow NewlyDecided origin.requests any any_on decided_moves (replied_if_due settings e.moment) origin.requests (λ r. tt)
-        (λ n r x is d. inl (by_test (λ (y : Request). y.decided ≡ Some x → r.decided ≡ Some x) (is_due settings e.moment r) (record r { replied = Some e.moment }) r (λ y z. z) (λ y z. z) d)) (came_same (λ (r : Request). r.decided) AnyRow NewlyDecided origin.requests any any_on decided_moves);
-    replied = came_mapped (λ (r : Request). r.replied) AnyRow NewlyReplied origin.requests any any_on replied_moves (replied_if_due settings e.moment) origin.requests (λ r. tt) reported (came_same (λ (r : Request). r.replied) AnyRow NewlyReplied origin.requests any any_on replied_moves);
+    decided = came_mapped (λ (r : Request). r.decided) AnyRow NewlyDecided origin.requests any any_on decided_continues (replied_if_due settings e.moment) origin.requests (λ r. tt)
+        (λ n r x is d. inl (by_test (λ (y : Request). y.decided ≡ Some x → r.decided ≡ Some x) (is_due settings e.moment r) (record r { replied = Some e.moment }) r (λ y z. z) (λ y z. z) d)) (came_same (λ (r : Request). r.decided) AnyRow NewlyDecided origin.requests any any_on decided_continues);
+    replied = came_mapped (λ (r : Request). r.replied) AnyRow NewlyReplied origin.requests any any_on replied_continues (replied_if_due settings e.moment) origin.requests (λ r. tt) reported (came_same (λ (r : Request). r.replied) AnyRow NewlyReplied origin.requests any any_on replied_continues);
   }
     where
       reported : (n : ℕ) (r : Request) (x : ℕ) → nth origin.requests n ≡ Some r → (replied_if_due settings e.moment r).replied ≡ Some x → (r.replied ≡ Some x) ⊎ NewlyReplied n r x
@@ -191,7 +191,7 @@ module _ (settings : Settings) (e : Entry) (origin : Tables) where
           )
 
   entry_came : BothCame (after settings origin e).requests
-  entry_came = an_entry_gives settings origin e came_now came_after heard_came moved_came (record { tables = due_stand settings e.moment origin; came = due_came })
+  entry_came = an_entry_gives settings origin e came_now came_after input_came continued_came (record { tables = due_stand settings e.moment origin; came = due_came })
 
 -- ---- a history
 

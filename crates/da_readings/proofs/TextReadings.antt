@@ -1,14 +1,14 @@
--- The texts of a request are those of the CONT lines that moved it.
+-- The texts of a request are those of the CONT lines that continued it.
 use Rattle.std.proofs.Common.{◌≡◌, ◌⊎◌, inl, inr, refl, sym, ◌∙◌, ap, ap₂, Option, Some, None, List, [], ◌∷◌, ◌++◌, ℕ, zero, suc, Bool, true, false, cond, map, option_map, option_and_then, append-nil, is_some, ◌==◌, eq-eqb, ne_eqb, true≢false}
 use Rattle.da_tables.proofs.Cases.{by_test, and_second}
-use Rattle.da_play.proofs.EntryParts.{HeardParts, MovedParts, HearsClient, IsMade, MadeLogin, MadeLookup, an_entry_gives}
+use Rattle.da_play.proofs.EntryParts.{InputParts, ContinuedParts, ReadsClient, IsMade, MadeLogin, MadeLookup, an_entry_gives}
 use Rattle.da_tables.proofs.Rows.{same_or_not, nth-changed, nth-unchanged, listed, listed_at, changed_listed, map_listed, new_listed}
 use Rattle.da_base.specs.Words.{Bytes, nth, changed_nth}
 use Rattle.da_fields.specs.declared.answer.Answer.{Answer}
 use Rattle.da_msgs.specs.ClientMessages.{client_message}
 use Rattle.da_msgs.specs.declared.client.ClientMsg.{ClientMsg}
 use Rattle.da_msgs.specs.declared.client.ClientMsg.TheVariants.{Cont}
-use Rattle.da_readings.specs.ListReadings.{if_moved, message_in, continued_text, texts_read, texts_in, TextsAreRead}
+use Rattle.da_readings.specs.ListReadings.{if_continued, message_in, continued_text, texts_read, texts_in, TextsAreRead}
 use Rattle.da_play.specs.History.{tables_of, after, after_input}
 use Rattle.da_tables.specs.Tables.{with_due_replied}
 use Rattle.da_request.specs.Requests.{with_decision, replied_if_due}
@@ -51,7 +51,7 @@ module _ (settings : Settings) (e : Entry) (origin : Tables) where
 
   -- what the input says, if it moves request n
   abbrev said : Option ℕ → ℕ → List Bytes
-  said m n = if_moved m n (continued_text (message_in before.connections e.input))
+  said m n = if_continued m n (continued_text (message_in before.connections e.input))
 
   abbrev texts_now : Tables → Option ℕ → List ℕ → Type 0
   texts_now tables m done = (n : ℕ) → texts_at tables.requests n ≡ texts_at before.requests n ++ said m n
@@ -64,13 +64,13 @@ module _ (settings : Settings) (e : Entry) (origin : Tables) where
 
   -- an input that continues nothing
   silent : (rs : List Request) (m : ℕ) → continued_text (message_in before.connections e.input) ≡ [] → ((n : ℕ) → texts_at rs n ≡ texts_at before.requests n) → (n : ℕ) → texts_at rs n ≡ texts_at before.requests n ++ said (Some m) n
-  silent rs m none h n = h n ∙ sym (ap (λ xs. texts_at before.requests n ++ xs) (ap (if_moved (Some m) n) none ∙ nothing (m == n)) ∙ append-nil (texts_at before.requests n))
+  silent rs m none h n = h n ∙ sym (ap (λ xs. texts_at before.requests n ++ xs) (ap (if_continued (Some m) n) none ∙ nothing (m == n)) ∙ append-nil (texts_at before.requests n))
     where
       nothing : (b : Bool) → no_texts b ≡ []
       nothing true = refl
       nothing false = refl
 
-  of_client : (conn : ℕ) (random : Bytes) (message : ClientMsg) → HearsClient before e.input conn random message → message_in before.connections e.input ≡ Some message
+  of_client : (conn : ℕ) (random : Bytes) (message : ClientMsg) → ReadsClient before e.input conn random message → message_in before.connections e.input ≡ Some message
   of_client conn random message m = ap (message_in before.connections) m.is_line
       ∙ ap (option_and_then (λ (c : Connection). cond (is_client c.kind) (client_message m.text) None)) m.is_there
       ∙ ap (λ (b : Bool). cond b (client_message m.text) None) m.is_client ∙ m.spells
@@ -143,8 +143,8 @@ module _ (settings : Settings) (e : Entry) (origin : Tables) where
   unfolding with_end
   end_texts conn n = still (map (as_cancelled_of conn) before.requests) (map_listed texts_of (as_cancelled_of conn) (λ r. ap texts_in (cancelled_body conn r)) before.requests) n
 
-  heard_texts : HeardParts settings e.moment before e.input (λ tables m. texts_now tables m [])
-  heard_texts = record {
+  input_texts : InputParts settings e.moment before e.input (λ tables m. texts_now tables m [])
+  input_texts = record {
     opens = λ kind random l p. p;
     tells = λ conn change h p. p;
     ends = λ conn x p. end_texts conn;
@@ -156,8 +156,8 @@ module _ (settings : Settings) (e : Entry) (origin : Tables) where
     lates = λ query given a g is run u p. still _ (changed_listed texts_of (with_late_answer a.question.db _) (λ r. ap texts_in (late_body a.question.db _ r)) before.requests a.request);
   }
 
-  moved_texts : MovedParts settings e.moment before e.input e.hits texts_now texts_after
-  moved_texts = record {
+  continued_texts : ContinuedParts settings e.moment before e.input e.hits texts_now texts_after
+  continued_texts = record {
     hit = λ tables continued number done rest a p is x w u q n. changed_listed texts_of (with_answer a.question.db p.0) (λ r. refl) tables.requests continued n ∙ q n;
     misses = λ tables continued number done rest x w q. q;
     rests = λ tables q. q;
@@ -170,7 +170,7 @@ module _ (settings : Settings) (e : Entry) (origin : Tables) where
   entry_texts : (n : ℕ) → texts_at (after settings origin e).requests n ≡ texts_at origin.requests n ++ said (after_input settings e.moment e.input before).continued n
   unfolding with_due_replied
   entry_texts n =
-      an_entry_gives settings origin e texts_now texts_after heard_texts moved_texts (still before.requests (λ m. refl)) n
+      an_entry_gives settings origin e texts_now texts_after input_texts continued_texts (still before.requests (λ m. refl)) n
       ∙ ap (λ (xs : List Bytes). xs ++ said (after_input settings e.moment e.input before).continued n) (map_listed texts_of (replied_if_due settings e.moment) (λ r. ap texts_in (due_body e.moment r)) origin.requests n)
 
 -- ---- a history

@@ -23,12 +23,12 @@ pub fn connections_are_read()
     ensures { ConnectionsAreRead }
 {}
 
-/// The texts of a request are those of the `CONT` lines that moved it, in order.
+/// The texts of a request are those of the `CONT` lines that continued it, in order.
 pub fn texts_are_read()
     ensures { TextsAreRead }
 {}
 
-/// The recordings are the queries whose answers may be kept, the last answered first.
+/// The cacheable answers are the queries whose answers may be kept, the last answered first.
 pub fn cacheable_are_read()
     ensures { CacheableAreRead }
 {}

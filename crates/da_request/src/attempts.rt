@@ -28,7 +28,6 @@ pub struct Attempt<'a> {
 }
 
 impl<'a> Model for Attempt<'a> {
-
     ghost Value = { Attempt };
 
     ghost view = { λ a. record { mech = a.mech; params = a.params.now; messages = a.messages; random = a.random.now; start = a.start; answers = a.answers.now } };

@@ -7,6 +7,7 @@ use crate::stages::Question;
 use da_fields::{Answer, Text};
 use std::alloc::{AllocError, Global};
 
+/// An equal text, where there is one.
 pub fn copy_text(alloc: Global, text: &Option<Text>) -> Result<Option<Text>, AllocError>
     ensures { IfOk result (λ copy. copy ≡ text.now) }
 {
@@ -83,6 +84,7 @@ impl Request {
     }
 }
 
+/// An equal answer, where there is one, with its moment.
 pub fn answer_copy(
     alloc: Global,
     answer: &Option<(Answer, u64)>,
@@ -96,6 +98,7 @@ pub fn answer_copy(
 }
 
 impl Question {
+    /// An equal question.
     pub fn copy(&self, alloc: Global) -> Result<Question, AllocError>
         ensures { IfOk result (λ copy. copy ≡ self.now) }
     {

@@ -88,6 +88,7 @@ impl Request {
         !self.is_cancelled && self.replied.is_none()
     }
 
+    /// Whether it is an open request of this connection.
     pub fn is_pending_of(&self, conn: u32) -> bool
         ensures { result ≡ is_of conn self.now && is_pending self.now }
     {
@@ -145,6 +146,7 @@ impl Request {
     }
 }
 
+/// A request that was accepted at this moment, before anything is known of it.
 pub fn new_request(
     alloc: Global,
     moment: u64,
@@ -178,7 +180,7 @@ pub fn add_answer(request: &mut Request, db: u32, answer: Answer) -> Result<(), 
     Ok(())
 }
 
-// A request that isn't decided has this answer under its database.
+/// A request that isn't decided has this answer under its database.
 pub fn add_late_answer(request: &mut Request, db: u32, answer: Answer) -> Result<(), AllocError>
     ensures { OnOk result (request.new ≡ with_late_answer db answer request.old) }
 {

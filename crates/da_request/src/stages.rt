@@ -60,6 +60,7 @@ pub enum Stage {
 }
 
 impl Request {
+    /// It is replied now, where its reply is due.
     pub fn reply_if_due(
         &mut self,
         alloc: Global,
@@ -75,7 +76,12 @@ impl Request {
     }
 
     /// It is decided now, and replied where that is due at once.
-    pub fn decide(&mut self, alloc: Global, settings: &Settings, moment: u64) -> Result<(), AllocError>
+    pub fn decide(
+        &mut self,
+        alloc: Global,
+        settings: &Settings,
+        moment: u64,
+    ) -> Result<(), AllocError>
         ensures { OnOk result (self.new ≡ with_decision settings.now moment self.old) }
     {
         self.decided = Some(moment);
@@ -119,11 +125,7 @@ impl Request {
 
     /// The login that the request makes, once its names are known.
     #[tactic(auto, unfolding(crate::specs::Requests::login_of))]
-    pub fn login(
-        &self,
-        alloc: Global,
-        settings: &Settings,
-    ) -> Result<Option<Login>, AllocError>
+    pub fn login(&self, alloc: Global, settings: &Settings) -> Result<Option<Login>, AllocError>
         ensures { IfOk result (λ login. login ≡ login_of settings.now self.now) }
     {
         match &self.body {
@@ -142,11 +144,7 @@ impl Request {
     }
 
     /// The moment at which the final reply is due, once there is a decision.
-    pub fn due_moment(
-        &self,
-        alloc: Global,
-        settings: &Settings,
-    ) -> Result<Option<u64>, AllocError>
+    pub fn due_moment(&self, alloc: Global, settings: &Settings) -> Result<Option<u64>, AllocError>
         ensures { IfOk result (λ due. due ≡ due_moment settings.now self.now) }
     {
         match self.decided {

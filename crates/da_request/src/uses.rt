@@ -22,7 +22,7 @@ fn proof_password(proof: Proof) -> Option<Text>
     }
 }
 
-// The password that a query of this kind hands to a program.
+/// The password that a query of this kind hands to a program.
 pub fn query_password(
     alloc: Global,
     settings: &Settings,

@@ -14,8 +14,8 @@ use Rattle.da_settings.specs.DefaultSettings.{default_settings}
 use Rattle.da_settings.specs.declared.settings.Settings.{Settings}
 
 -- a user database that workers answer for
-abbrev pub usual_userdb : Userdb
-usual_userdb =
+abbrev pub default_userdb : Userdb
+default_userdb =
     record {
       number = 1;
       driver = Worker;
@@ -29,7 +29,7 @@ usual_userdb =
     }
 
 abbrev pub with_users : Settings
-with_users = record (default_settings 0) { userdb = usual_userdb ∷ [] }
+with_users = record (default_settings 0) { userdb = default_userdb ∷ [] }
 
 -- a master asks for the login that is request 1 of the client with the process number 4711, by the cookie that the
 -- client's connection was told, and by another

@@ -51,18 +51,18 @@ pub fn masters_log_in_for_users()
     ensures there { play with_masters [] bob_is_there ≡ bob_is_there_replies }
 {}
 
-/// An answer is used again within its life and no longer, while its key is in the cache, and not for a password that is
+/// An answer is used again within its ttl and no longer, while its key is in the cache, and not for a password that is
 /// wrong after one that was right.
 pub fn answers_are_used_again()
     ensures { play one_second [] told_again ≡ told_again_replies }
 {}
 
-/// What is compared at an entry is the stored password of the answer that it records, or of the known one within its life,
+/// What is compared at an entry is the stored password of the answer that it records, or of the known one within its ttl,
 /// even where that one may not be used again.
 pub fn known_answers_are_compared()
     ensures recorded { compared asked_once (answer 20 1 her_password) ≡ Some (stored_pw, codes "pw") }
     ensures used_again { compared told_once (line 1020 1 (plain_login 2 alice)) ≡ Some (stored_pw, codes "pw") }
-    ensures past_its_life { compared told_once (line 1021 1 (plain_login 2 alice)) ≡ None }
+    ensures past_its_ttl { compared told_once (line 1021 1 (plain_login 2 alice)) ≡ None }
     ensures asked_anew { compared told_twice (line 1022 1 (plain_login 4 alice_with_no)) ≡ Some (stored_pw, codes "no") }
 {}
 

@@ -6,8 +6,8 @@ ghost use Rattle.da_script.specs.Events.{answered, event_after, event_of, fits_a
 
 use crate::random::random_of;
 use da_fields::Text;
-use da_play::Input;
 use da_msgs::ConnKind;
+use da_play::Input;
 use da_query::read_script_answer;
 use da_tabline::{decimal_number, decimal_u32, split_at_byte};
 use std::alloc::{AllocError, Global};

@@ -5,8 +5,8 @@ ghost use Rattle.da_script.specs.Events.{InputIsHeld, IsPlain, event_line, event
 ghost use Rattle.da_script.specs.Random.{AreRandom, random_text};
 
 use crate::random::push_random;
-use da_play::Input;
 use da_msgs::ConnKind;
+use da_play::Input;
 use da_query::print_answer;
 use std::alloc::{AllocError, Global};
 

@@ -1,6 +1,6 @@
-use da_script::*;
 use da_fields::{Query, QueryKind, Text};
 use da_play::{Outputs, Refused, Sent};
+use da_script::*;
 use da_tables::Numbers;
 use std::alloc::{AllocError, Global};
 use std::test::Fail;

@@ -34,15 +34,15 @@ pub changed_so_far : {X : Type 0} (f : X → X) (xs ys : List X) (i : ℕ) (d y 
 changed_so_far f xs ys i d y h k e q = ap (λ x. set ys i x) q ∙ map_over_more f xs ys i (get_or ys i d) h e (get_or_default ys i d (get_or ys i d) k)
 
 -- a count, as the library counts
-pub count_where_is : {X : Type 0} (comparison : X → Bool) (xs : List X) → count_where comparison xs ≡ count_by comparison xs
-count_where_is comparison xs = is_count_by (count_where comparison) comparison refl
-    (λ x ys. by_test (λ n. cond (comparison x) 1 0 + count_where comparison ys ≡ n) (comparison x) (1 + count_where comparison ys) (count_where comparison ys)
-    (λ e. ap (λ b. cond b 1 0 + count_where comparison ys) e) (λ e. ap (λ b. cond b 1 0 + count_where comparison ys) e ∙ zero-add _)) xs
+pub count_where_is : {X : Type 0} (holds : X → Bool) (xs : List X) → count_where holds xs ≡ count_by holds xs
+count_where_is holds xs = is_count_by (count_where holds) holds refl
+    (λ x ys. by_test (λ n. cond (holds x) 1 0 + count_where holds ys ≡ n) (holds x) (1 + count_where holds ys) (count_where holds ys)
+    (λ e. ap (λ b. cond b 1 0 + count_where holds ys) e) (λ e. ap (λ b. cond b 1 0 + count_where holds ys) e ∙ zero-add _)) xs
 
 -- at most all rows pass a test
-pub count_few : {X : Type 0} (comparison : X → Bool) (xs : List X) → count_where comparison xs ≤ length xs
-count_few comparison [] = omega arith
-count_few comparison (x ∷ xs) = one_more (comparison x) (count_where comparison xs) (length xs) (count_few comparison xs)
+pub count_few : {X : Type 0} (holds : X → Bool) (xs : List X) → count_where holds xs ≤ length xs
+count_few holds [] = omega arith
+count_few holds (x ∷ xs) = one_more (holds x) (count_where holds xs) (length xs) (count_few holds xs)
   where
     one_more : (b : Bool) (m n : ℕ) → m ≤ n → cond b 1 0 + m ≤ suc n
     one_more true m n l = omega (arith, l)

@@ -14,9 +14,9 @@ same_or_not m n = go (m == n) refl
     go false e = inr (λ d. true≢false (sym (eq-eqb m n d) ∙ e))
 
 -- what passes a test is there
-pub passing : {A : Type 0} (comparison : A → Bool) (o : Option A) → passes_option comparison o ≡ true → (x : A) × (o ≡ Some x) × (comparison x ≡ true)
-passing comparison None e = absurd (true≢false (sym e))
-passing comparison (Some x) e = (x, refl, e)
+pub passing : {A : Type 0} (holds : A → Bool) (o : Option A) → passes_option holds o ≡ true → (x : A) × (o ≡ Some x) × (holds x ≡ true)
+passing holds None e = absurd (true≢false (sym e))
+passing holds (Some x) e = (x, refl, e)
 
 pub mapped_value : {A B : Type 0} (f : A → B) (o : Option A) (y : B) → option_map f o ≡ Some y → (x : A) × (o ≡ Some x) × (y ≡ f x)
 mapped_value f None y e = absurd (none-some y e)
@@ -123,21 +123,21 @@ pub nth-past : {A : Type 0} (xs : List A) (y : A) → nth xs (suc (length xs)) �
 nth-past xs y e = slice-past xs y e
 
 -- the first row that passes a test passes it
-pub first_passes : {A : Type 0} (comparison : A → Bool) (xs : List A) (x : A) → nth xs (number_where comparison xs) ≡ Some x → comparison x ≡ true
-first_passes comparison [] x e = absurd (none-some x e)
-first_passes {A} comparison (y ∷ xs) x e = go (first_passes comparison xs x) (comparison y) refl
+pub first_passes : {A : Type 0} (holds : A → Bool) (xs : List A) (x : A) → nth xs (number_where holds xs) ≡ Some x → holds x ≡ true
+first_passes holds [] x e = absurd (none-some x e)
+first_passes {A} holds (y ∷ xs) x e = go (first_passes holds xs x) (holds y) refl
   where
     later : (n : ℕ) → nth (y ∷ xs) (one_further n) ≡ Some x → nth xs n ≡ Some x
     later zero d = absurd (none-some x d)
     later (suc n) d = d
 
-    go : (nth xs (number_where comparison xs) ≡ Some x → comparison x ≡ true) → (b : Bool) → comparison y ≡ b → comparison x ≡ true
-    go further true d = subst (λ z. comparison z ≡ true) (same_Some y x (sym (ap (λ (b : Bool). nth (y ∷ xs) (cond b 1 (one_further (number_where comparison xs)))) d) ∙ e)) d
-    go further false d = further (later (number_where comparison xs) (sym (ap (λ (b : Bool). nth (y ∷ xs) (cond b 1 (one_further (number_where comparison xs)))) d) ∙ e))
+    go : (nth xs (number_where holds xs) ≡ Some x → holds x ≡ true) → (b : Bool) → holds y ≡ b → holds x ≡ true
+    go further true d = subst (λ z. holds z ≡ true) (same_Some y x (sym (ap (λ (b : Bool). nth (y ∷ xs) (cond b 1 (one_further (number_where holds xs)))) d) ∙ e)) d
+    go further false d = further (later (number_where holds xs) (sym (ap (λ (b : Bool). nth (y ∷ xs) (cond b 1 (one_further (number_where holds xs)))) d) ∙ e))
 
 -- the number of the first row that passes is that of a row
-pub number_found : {A : Type 0} (comparison : A → Bool) (xs : List A) (n : ℕ) → number_where comparison xs ≡ suc n → (x : A) × (nth xs (suc n) ≡ Some x)
-number_found comparison [] n e = absurd (zero-not-suc n e)
+pub number_found : {A : Type 0} (holds : A → Bool) (xs : List A) (n : ℕ) → number_where holds xs ≡ suc n → (x : A) × (nth xs (suc n) ≡ Some x)
+number_found holds [] n e = absurd (zero-not-suc n e)
   where
     is_zero : ℕ → Bool
     is_zero zero = true
@@ -145,7 +145,7 @@ number_found comparison [] n e = absurd (zero-not-suc n e)
 
     zero-not-suc : (n : ℕ) → zero ≡ suc n → ⊥
     zero-not-suc n e = true≢false (ap is_zero e)
-number_found {A} comparison (y ∷ xs) n e = go (number_found comparison xs) (comparison y) refl
+number_found {A} holds (y ∷ xs) n e = go (number_found holds xs) (holds y) refl
   where
     less : ℕ → ℕ
     less zero = zero
@@ -155,46 +155,46 @@ number_found {A} comparison (y ∷ xs) n e = go (number_found comparison xs) (co
     is_zero zero = true
     is_zero (suc n) = false
 
-    further : ((k : ℕ) → number_where comparison xs ≡ suc k → (x : A) × (nth xs (suc k) ≡ Some x)) → (m : ℕ) → number_where comparison xs ≡ m → one_further m ≡ suc n → (x : A) × (nth (y ∷ xs) (suc n) ≡ Some x)
+    further : ((k : ℕ) → number_where holds xs ≡ suc k → (x : A) × (nth xs (suc k) ≡ Some x)) → (m : ℕ) → number_where holds xs ≡ m → one_further m ≡ suc n → (x : A) × (nth (y ∷ xs) (suc n) ≡ Some x)
     further rest zero d w = absurd (true≢false (ap is_zero w))
     further rest (suc k) d w = subst (λ (j : ℕ). (x : A) × (nth (y ∷ xs) (suc j) ≡ Some x)) (ap less w) (rest k d)
 
-    go : ((k : ℕ) → number_where comparison xs ≡ suc k → (x : A) × (nth xs (suc k) ≡ Some x)) → (b : Bool) → comparison y ≡ b → (x : A) × (nth (y ∷ xs) (suc n) ≡ Some x)
-    go rest true d = subst (λ (j : ℕ). (x : A) × (nth (y ∷ xs) (suc j) ≡ Some x)) (ap less (sym (ap (λ (b : Bool). cond b 1 (one_further (number_where comparison xs))) d) ∙ e)) (y, refl)
-    go rest false d = further rest (number_where comparison xs) refl (sym (ap (λ (b : Bool). cond b 1 (one_further (number_where comparison xs))) d) ∙ e)
+    go : ((k : ℕ) → number_where holds xs ≡ suc k → (x : A) × (nth xs (suc k) ≡ Some x)) → (b : Bool) → holds y ≡ b → (x : A) × (nth (y ∷ xs) (suc n) ≡ Some x)
+    go rest true d = subst (λ (j : ℕ). (x : A) × (nth (y ∷ xs) (suc j) ≡ Some x)) (ap less (sym (ap (λ (b : Bool). cond b 1 (one_further (number_where holds xs))) d) ∙ e)) (y, refl)
+    go rest false d = further rest (number_where holds xs) refl (sym (ap (λ (b : Bool). cond b 1 (one_further (number_where holds xs))) d) ∙ e)
 
 -- ---- the numbers of the rows that pass
 
-none_before : {A : Type 0} (comparison : A → Bool) (k m : ℕ) (xs : List A) → k < m → list_any (λ n. n == k) (numbers_where comparison m xs) ≡ false
-none_before comparison k m [] l = refl
-none_before comparison k m (x ∷ xs) l = by_pass (none_before comparison k (suc m) xs (omega (arith, l))) (comparison x)
+none_before : {A : Type 0} (holds : A → Bool) (k m : ℕ) (xs : List A) → k < m → list_any (λ n. n == k) (numbers_where holds m xs) ≡ false
+none_before holds k m [] l = refl
+none_before holds k m (x ∷ xs) l = by_pass (none_before holds k (suc m) xs (omega (arith, l))) (holds x)
   where
-    by_pass : list_any (λ n. n == k) (numbers_where comparison (suc m) xs) ≡ false → (b : Bool) → list_any (λ n. n == k) (cond b (m ∷ numbers_where comparison (suc m) xs) (numbers_where comparison (suc m) xs)) ≡ false
-    by_pass rest true = ap (λ (b : Bool). b || list_any (λ n. n == k) (numbers_where comparison (suc m) xs)) (ne_eqb m k (λ d. let bad : ⊥ = omega (arith, d, l) in bad)) ∙ rest
+    by_pass : list_any (λ n. n == k) (numbers_where holds (suc m) xs) ≡ false → (b : Bool) → list_any (λ n. n == k) (cond b (m ∷ numbers_where holds (suc m) xs) (numbers_where holds (suc m) xs)) ≡ false
+    by_pass rest true = ap (λ (b : Bool). b || list_any (λ n. n == k) (numbers_where holds (suc m) xs)) (ne_eqb m k (λ d. let bad : ⊥ = omega (arith, d, l) in bad)) ∙ rest
     by_pass rest false = rest
 
-numbered : {A : Type 0} (comparison : A → Bool) (n m : ℕ) (xs : List A) → list_any (λ j. j == n + m) (numbers_where comparison m xs) ≡ passes_option comparison (slice_get xs n)
-numbered comparison n m [] = refl
-numbered comparison zero m (x ∷ xs) = by_pass (comparison x)
+numbered : {A : Type 0} (holds : A → Bool) (n m : ℕ) (xs : List A) → list_any (λ j. j == n + m) (numbers_where holds m xs) ≡ passes_option holds (slice_get xs n)
+numbered holds n m [] = refl
+numbered holds zero m (x ∷ xs) = by_pass (holds x)
   where
-    by_pass : (b : Bool) → list_any (λ j. j == 0 + m) (cond b (m ∷ numbers_where comparison (suc m) xs) (numbers_where comparison (suc m) xs)) ≡ b
-    by_pass true = ap (λ (b : Bool). b || list_any (λ j. j == 0 + m) (numbers_where comparison (suc m) xs)) (eq-eqb m (0 + m) (omega arith))
-    by_pass false = none_before comparison (0 + m) (suc m) xs (omega arith)
-numbered comparison (suc n) m (x ∷ xs) = by_pass (numbered comparison n (suc m) xs) (comparison x)
+    by_pass : (b : Bool) → list_any (λ j. j == 0 + m) (cond b (m ∷ numbers_where holds (suc m) xs) (numbers_where holds (suc m) xs)) ≡ b
+    by_pass true = ap (λ (b : Bool). b || list_any (λ j. j == 0 + m) (numbers_where holds (suc m) xs)) (eq-eqb m (0 + m) (omega arith))
+    by_pass false = none_before holds (0 + m) (suc m) xs (omega arith)
+numbered holds (suc n) m (x ∷ xs) = by_pass (numbered holds n (suc m) xs) (holds x)
   where
     shift : suc n + m ≡ n + suc m
     shift = omega arith
 
-    by_pass : list_any (λ j. j == n + suc m) (numbers_where comparison (suc m) xs) ≡ passes_option comparison (slice_get xs n) → (b : Bool) →
-        list_any (λ j. j == suc n + m) (cond b (m ∷ numbers_where comparison (suc m) xs) (numbers_where comparison (suc m) xs)) ≡ passes_option comparison (slice_get xs n)
-    by_pass rest true = ap (λ (b : Bool). b || list_any (λ j. j == suc n + m) (numbers_where comparison (suc m) xs)) (ne_eqb m (suc n + m) (λ d. let bad : ⊥ = omega (arith, d) in bad))
-        ∙ ap (λ (k : ℕ). list_any (λ j. j == k) (numbers_where comparison (suc m) xs)) shift ∙ rest
-    by_pass rest false = ap (λ (k : ℕ). list_any (λ j. j == k) (numbers_where comparison (suc m) xs)) shift ∙ rest
+    by_pass : list_any (λ j. j == n + suc m) (numbers_where holds (suc m) xs) ≡ passes_option holds (slice_get xs n) → (b : Bool) →
+        list_any (λ j. j == suc n + m) (cond b (m ∷ numbers_where holds (suc m) xs) (numbers_where holds (suc m) xs)) ≡ passes_option holds (slice_get xs n)
+    by_pass rest true = ap (λ (b : Bool). b || list_any (λ j. j == suc n + m) (numbers_where holds (suc m) xs)) (ne_eqb m (suc n + m) (λ d. let bad : ⊥ = omega (arith, d) in bad))
+        ∙ ap (λ (k : ℕ). list_any (λ j. j == k) (numbers_where holds (suc m) xs)) shift ∙ rest
+    by_pass rest false = ap (λ (k : ℕ). list_any (λ j. j == k) (numbers_where holds (suc m) xs)) shift ∙ rest
 
 -- a number is listed exactly where its row passes
-pub is_listed : {A : Type 0} (comparison : A → Bool) (n : ℕ) (xs : List A) → list_any (λ j. j == n) (numbers_where comparison 1 xs) ≡ passes_option comparison (nth xs n)
-is_listed comparison zero xs = none_before comparison 0 1 xs (omega arith)
-is_listed comparison (suc n) xs = ap (λ (k : ℕ). list_any (λ j. j == k) (numbers_where comparison 1 xs)) one_more ∙ numbered comparison n 1 xs
+pub is_listed : {A : Type 0} (holds : A → Bool) (n : ℕ) (xs : List A) → list_any (λ j. j == n) (numbers_where holds 1 xs) ≡ passes_option holds (nth xs n)
+is_listed holds zero xs = none_before holds 0 1 xs (omega arith)
+is_listed holds (suc n) xs = ap (λ (k : ℕ). list_any (λ j. j == k) (numbers_where holds 1 xs)) one_more ∙ numbered holds n 1 xs
   where
     one_more : suc n ≡ n + 1
     one_more = omega arith

@@ -7,7 +7,7 @@ use Rattle.da_tables.specs.declared.input_effect.InputEffect.{InputEffect}
 use Rattle.da_tables.specs.declared.queries.QueryRow.{QueryRow}
 use Rattle.da_tables.specs.declared.tables.Tables.{Tables}
 
--- what an input did, with the state after it
+-- what an input did, with the tables after it
 abbrev pub with_effect : Tables → InputEffect → AfterInput
 with_effect tables reported = record { tables = tables; continued = reported.continued; closed = reported.closed }
 

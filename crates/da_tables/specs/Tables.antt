@@ -39,13 +39,13 @@ with_end conn tables =
 
 -- ---- what an input of its own does
 
--- the state after it, the request that it moves, and the connection that the server closes
+-- the tables after it, the request that it continues, and the connection that the server closes
 pub record AfterInput : Type 0 where
   pub tables : Tables
   pub continued : Option ℕ
   pub closed : Option ℕ
 
--- it moves no request
+-- it continues no request
 abbrev pub continuing_none : Tables → AfterInput
 continuing_none tables = record { tables = tables; continued = None; closed = None }
 
@@ -56,7 +56,7 @@ continuing number tables = record { tables = tables; continued = Some number; cl
 abbrev pub closing : ℕ → Tables → AfterInput
 closing conn tables = record { tables = with_end conn tables; continued = None; closed = Some conn }
 
--- a new request, which is the one that moves
+-- a new request, which is the one that continues
 abbrev pub continuing_new : Request → Tables → AfterInput
 continuing_new r tables = continuing (suc (length tables.requests)) (record tables { requests = tables.requests ++ r ∷ [] })
 

@@ -6,8 +6,8 @@ ghost use Rattle.da_base.specs.Words.{number_where, count_where, changed_nth};
 ghost use Rattle.da_tables.specs.Connections.{has_pid, open_count, request_number, client_may, master_may, may_authenticate, may_look_up, may_tell_pid, may_tell_version, with_version, with_pid};
 ghost use Rattle.da_tables.specs.Tables.{is_client, is_open_in, closed};
 
-use crate::tables::Tables;
 use crate::requests::{number_called, pending_count};
+use crate::tables::Tables;
 use da_fields::Text;
 use da_msgs::{ClientMsg, ConnKind, MasterMsg};
 use da_request::{Request, row};
@@ -181,6 +181,7 @@ fn is_client(kind: ConnKind) -> bool
     }
 }
 
+/// The number of the open client connection of this process number, or 0.
 pub fn number_with_pid(connections: &[Connection], pid: u32) -> u32
     requires { length connections.now < 2 ^ 32 - 1 }
     ensures { result ≡ number_where (has_pid pid) connections.now }
@@ -195,12 +196,14 @@ pub fn number_with_pid(connections: &[Connection], pid: u32) -> u32
     0
 }
 
+/// Whether an open client connection has this process number.
 pub fn some_has_pid(connections: &[Connection], pid: u32) -> bool
     ensures { result ≡ list_any (has_pid pid) connections.now }
 {
     connections.iter().any(|connection| connection.has_pid(pid))
 }
 
+/// How many connections are open.
 pub fn count_open(connections: &[Connection]) -> usize
     ensures { result ≡ count_where (λ c. c.is_open) connections.now }
 {

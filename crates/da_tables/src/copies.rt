@@ -11,6 +11,7 @@ use da_request::{answer_copy, copy_text};
 use std::alloc::{AllocError, Global};
 
 impl Connection {
+    /// An equal connection.
     pub fn copy(&self, alloc: Global) -> Result<Connection, AllocError>
         ensures { IfOk result (λ copy. copy ≡ self.now) }
     {
@@ -25,6 +26,7 @@ impl Connection {
 }
 
 impl Comparisons {
+    /// Equal comparisons.
     pub fn copy(&self, alloc: Global) -> Result<Comparisons, AllocError>
         ensures { IfOk result (λ copy. copy ≡ self.now) }
     {
@@ -35,6 +37,7 @@ impl Comparisons {
 }
 
 impl QueryRow {
+    /// An equal row.
     pub fn copy(&self, alloc: Global) -> Result<QueryRow, AllocError>
         ensures { IfOk result (λ copy. copy ≡ self.now) }
     {
@@ -50,6 +53,7 @@ impl QueryRow {
 }
 
 impl Connections {
+    /// Equal connections.
     pub fn copy(&self, alloc: Global) -> Result<Connections, AllocError>
         ensures { IfOk result (λ copy. copy ≡ self.now) }
     {
@@ -62,6 +66,7 @@ impl Connections {
 }
 
 impl Requests {
+    /// Equal requests.
     pub fn copy(&self, alloc: Global) -> Result<Requests, AllocError>
         ensures { IfOk result (λ copy. copy ≡ self.now) }
     {
@@ -74,6 +79,7 @@ impl Requests {
 }
 
 impl Queries {
+    /// Equal queries.
     pub fn copy(&self, alloc: Global) -> Result<Queries, AllocError>
         ensures { IfOk result (λ copy. copy ≡ self.now) }
     {
@@ -86,6 +92,7 @@ impl Queries {
 }
 
 impl Keys {
+    /// Equal keys.
     pub fn copy(&self, alloc: Global) -> Result<Keys, AllocError>
         ensures { IfOk result (λ copy. copy ≡ self.now) }
     {

@@ -5,14 +5,14 @@ ghost use Rattle.std.specs.Prelude.{◌≡◌, ◌<◌, ◌^◌, ◌-◌, None, 
 /// What an input does beside changing the tables.
 #[derive(Clone, Copy, Drop)]
 pub struct InputEffect {
-    /// The request that it moves.
+    /// The request that it continues.
     pub continued: Option<u32>,
     /// The connection that the server closes.
     pub closed: Option<u32>,
 }
 
 impl InputEffect {
-    /// It moves no request.
+    /// It continues no request.
     pub fn continuing_none() -> InputEffect
         ensures { result ≡ record { continued = None; closed = None } }
     {
@@ -22,7 +22,7 @@ impl InputEffect {
         }
     }
 
-    /// It moves this request.
+    /// It continues this request.
     pub fn continuing(number: u32) -> InputEffect
         ensures { result ≡ record { continued = Some number; closed = None } }
     {

@@ -15,6 +15,12 @@ pub use connections::{Connection, Connections, count_open, number_with_pid, some
 pub use input_effect::InputEffect;
 pub use keys::Keys;
 pub use numbers::Numbers;
-pub use queries::{Comparisons, Queries, QueryRow, add_query, first_waiting, is_running, is_running_in, is_waiting, put_in_row, query_with, use_row_again};
-pub use requests::{Requests, answer_in_row, is_undecided_in, late_answer_in_row, number_called, pending_count, some_is_granted_for};
+pub use queries::{
+    Comparisons, Queries, QueryRow, add_query, first_waiting, is_running, is_running_in,
+    is_waiting, put_in_row, query_with, use_row_again,
+};
+pub use requests::{
+    Requests, answer_in_row, is_undecided_in, late_answer_in_row, number_called, pending_count,
+    some_is_granted_for,
+};
 pub use tables::Tables;

@@ -89,8 +89,12 @@ fn use_again(query_row: &mut QueryRow, comparison: Option<bool>) -> Result<(), A
     add_comparison(&mut query_row.comparisons, comparison)
 }
 
-// The same for the query of this number.
-pub fn use_row_again(queries: &mut Queries, number: u32, comparison: Option<bool>) -> Result<(), AllocError>
+/// What the use of the answer to the query of this number found is put first.
+pub fn use_row_again(
+    queries: &mut Queries,
+    number: u32,
+    comparison: Option<bool>,
+) -> Result<(), AllocError>
     ensures { OnOk result (queries.new ≡ changed_nth (used_again comparison) queries.old number) }
 {
     let Some(index) = row_index(&queries.items, number) else {
@@ -196,7 +200,10 @@ pub fn add_query(
 }
 
 /// What a use found is put first.
-pub(crate) fn add_comparison(comparisons: &mut Comparisons, comparison: Option<bool>) -> Result<(), AllocError>
+pub(crate) fn add_comparison(
+    comparisons: &mut Comparisons,
+    comparison: Option<bool>,
+) -> Result<(), AllocError>
     ensures { OnOk result (comparisons.new ≡ with_comparison comparison comparisons.old) }
 {
     if let Some(matched) = comparison {
@@ -218,7 +225,7 @@ fn put_answer(
     add_comparison(&mut query_row.comparisons, comparison)
 }
 
-// The answer stands with the query of this number, and so does what a use found.
+/// The answer stands with the query of this number, and so does what a use found.
 pub fn put_in_row(
     queries: &mut Queries,
     number: u32,

@@ -34,6 +34,7 @@ impl Requests {
         &self.items
     }
 
+    /// The requests whose replies are due at this moment are replied now.
     pub fn reply_due(
         &mut self,
         alloc: Global,
@@ -52,6 +53,7 @@ impl Requests {
     }
 }
 
+/// The number of the request that the connection calls by this id, or 0.
 pub fn number_called(requests: &[Request], conn: u32, id: u32) -> u32
     requires { length requests.now < 2 ^ 32 - 1 }
     ensures { result ≡ number_where (λ r. is_of conn r && (r.id == id)) requests.now }
@@ -66,6 +68,7 @@ pub fn number_called(requests: &[Request], conn: u32, id: u32) -> u32
     0
 }
 
+/// How many requests of the connection are open.
 pub fn pending_count(requests: &[Request], conn: u32) -> usize
     ensures { result ≡ count_where (λ r. is_of conn r && is_pending r) requests.now }
 {
@@ -85,6 +88,7 @@ pub(crate) fn push_text(requests: &mut [Request], number: u32, text: Text) -> Re
     Ok(())
 }
 
+/// Whether a lookup was granted for the request of this number.
 pub fn some_is_granted_for(requests: &[Request], number: u32) -> bool
     ensures { result ≡ list_any (λ q. is_granted_for number q.body) requests.now }
 {
@@ -123,7 +127,7 @@ pub(crate) fn decide_row(
     Ok(())
 }
 
-// Whether the request of this number is there, open and not decided.
+/// Whether the request of this number is there, open and not decided.
 pub fn is_undecided_in(requests: &[Request], number: u32) -> bool
     ensures { result ≡ passes_option is_undecided (nth requests.now number) }
 {
@@ -149,7 +153,7 @@ pub fn answer_in_row(
     add_answer(request, db, answer)
 }
 
-// The same for the request of this number.
+/// A request of this number that is not decided has this answer under its database.
 pub fn late_answer_in_row(
     requests: &mut Requests,
     number: u32,

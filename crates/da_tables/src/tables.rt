@@ -1,7 +1,7 @@
 // The tables of the server: what is known of connections, requests and queries at the end of a history.
 
-ghost use Rattle.std.specs.Prelude.{◌≡◌, ◌<◌, ◌^◌, ◌-◌, OnOk, length, IfOk, ◌++◌, ◌∷◌, [], None, false, true};
-ghost use Rattle.da_base.specs.Words.{hex};
+ghost use Rattle.std.specs.Prelude.{◌≡◌, ◌<◌, ◌^◌, ◌-◌, OnOk, length, IfOk, ◌++◌, ◌∷◌, [], None, false, true, option_map};
+ghost use Rattle.da_base.specs.Words.{hex, nth};
 ghost use Rattle.da_request.specs.Requests.{with_text, with_decision, cancelled};
 ghost use Rattle.da_tables.specs.Bridges.{with_effect};
 ghost use Rattle.da_tables.specs.Connections.{is_used, with_version, with_pid};
@@ -12,12 +12,12 @@ use crate::connections::{Connection, Connections, set_pid, version};
 use crate::input_effect::InputEffect;
 use crate::keys::Keys;
 use crate::numbers::Numbers;
-use crate::queries::{Queries, take_row};
+use crate::queries::{Queries, QueryRow, take_row};
 use crate::requests::{Requests, cancel, decide_row, push_text, some_is_granted_for};
 use da_cram::hex_digits;
 use da_fields::Text;
 use da_msgs::ConnKind;
-use da_request::Request;
+use da_request::{Request, row};
 use da_settings::Settings;
 use std::alloc::{AllocError, Global};
 
@@ -41,14 +41,15 @@ impl Tables {
         some_is_granted_for(&self.requests.items, number)
     }
 
+    /// The request of this number has one message of its client more.
     pub fn push_text(&mut self, number: u32, text: Text) -> Result<(), AllocError>
         ensures { OnOk result (self.new ≡ with_request (with_text text) number self.old) }
     {
         push_text(&mut self.requests.items, number, text)
     }
 
-    /// A new request, which is the one that moves.
-    pub fn accepts(&mut self, request: Request) -> Result<InputEffect, AllocError>
+    /// A new request, which is the one that continues.
+    pub fn add_request(&mut self, request: Request) -> Result<InputEffect, AllocError>
         requires { length self.old.requests < 2 ^ 32 - 1 }
         ensures { IfOk result (λ h. with_effect self.new h ≡ continuing_new request self.old) }
     {
@@ -70,6 +71,7 @@ impl Tables {
         self.requests.reply_due(alloc, settings, moment)
     }
 
+    /// One connection more, which is open and has told nothing of itself.
     pub fn push_connection(
         &mut self,
         alloc: Global,
@@ -89,12 +91,14 @@ impl Tables {
         Ok(())
     }
 
+    /// The query of this number is handed out at this moment.
     pub fn take(&mut self, moment: u64, number: u32)
         ensures { self.new ≡ with_query (as_taken moment) number self.old }
     {
         take_row(&mut self.queries.items, moment, number);
     }
 
+    /// The request of this number is decided at this moment, and replied where that is due at once.
     pub fn decide(
         &mut self,
         alloc: Global,
@@ -126,6 +130,27 @@ impl Tables {
                 items: Vec::new(alloc),
             },
         }
+    }
+
+    /// The connection of this number. `None` exactly where there is none.
+    pub fn connection(&self, number: u32) -> Option<&Connection>
+        ensures { option_map (λ c. c.now) result ≡ nth self.now.connections number }
+    {
+        row(&self.connections.items, number)
+    }
+
+    /// The request of this number. `None` exactly where there is none.
+    pub fn request(&self, number: u32) -> Option<&Request>
+        ensures { option_map (λ r. r.now) result ≡ nth self.now.requests number }
+    {
+        row(&self.requests.items, number)
+    }
+
+    /// The query of this number. `None` exactly where there is none.
+    pub fn query(&self, number: u32) -> Option<&QueryRow>
+        ensures { option_map (λ q. q.now) result ≡ nth self.now.queries number }
+    {
+        row(&self.queries.items, number)
     }
 
     /// The end of a connection cancels its requests.

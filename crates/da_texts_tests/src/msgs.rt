@@ -1,5 +1,5 @@
-use da_msgs::*;
 use da_fields::{Fields, Text};
+use da_msgs::*;
 use std::alloc::{AllocError, Global};
 use std::test::Fail;
 

@@ -1,5 +1,5 @@
-use da_query::*;
 use da_fields::{Answer, Fields, Query, QueryKind, Text, Why};
+use da_query::*;
 use std::alloc::{AllocError, Global};
 use std::test::Fail;
 

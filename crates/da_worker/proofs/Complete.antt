@@ -12,7 +12,7 @@ use Rattle.da_outside.specs.Causes.{Rose}
 use Rattle.da_query.specs.Queries.{query_of}
 use Rattle.da_worker.specs.declared.worker.WorkerStatus.{WorkerStatus}
 use Rattle.da_worker.specs.declared.worker.WorkerStatus.TheVariants.{Done, BadInput, LongInput, ReadFault, WriteFault, NoMemory}
-use Rattle.da_worker.specs.Turns.{Told}
+use Rattle.da_worker.specs.AnsweredQueries.{Told}
 use Rattle.da_worker.specs.Run.{query_cut, bad_from, or_bad, first_bad, first_bad_at_end, Ran, IsGood, IsAnswered}
 
 bad_from-append : (n : ℕ) (lines more : List Bytes) (bad : ℕ) → bad_from n lines ≡ Some bad → bad_from n (lines ++ more) ≡ Some bad

@@ -1,4 +1,4 @@
 pub mod PieceLemmas
-pub mod TurnLemmas
+pub mod AnsweredLemmas
 pub mod Running
 pub mod Complete

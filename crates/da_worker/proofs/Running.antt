@@ -17,26 +17,26 @@ use Rattle.da_query.specs.Queries.{query_of}
 use Rattle.da_worker.specs.declared.worker.WorkerStatus.{WorkerStatus}
 use Rattle.da_worker.specs.declared.worker.WorkerStatus.TheVariants.{Done, BadInput, LongInput, ReadFault, WriteFault, NoMemory}
 use Rattle.da_worker.specs.Output.{Begins}
-use Rattle.da_worker.specs.Turns.{Turn, Told, IsTurn, ReadsFiles, turn_text, texts, queries_of, reads_of}
+use Rattle.da_worker.specs.AnsweredQueries.{AnsweredQuery, Told, IsAnsweredQuery, ReadsFiles, answered_text, texts, queries_of, reads_of}
 use Rattle.da_worker.specs.Answering.{TakesTurn, TurnsWhole, TurnsFront}
 use Rattle.da_worker.specs.Fill.{FeedsBytes, ReadsSome, ReadsOne}
 use Rattle.da_worker.specs.Run.{query_cut, with_query, queries_from, queries, bad_from, or_bad, first_bad, Ends, Ran}
-use Rattle.da_worker.proofs.TurnLemmas.{ReadsFiles-nil, ReadsFiles-trans, ReadsFiles-kept, AllByRecursion-push, texts_push, queries_of_push, reads_of_push}
+use Rattle.da_worker.proofs.AnsweredLemmas.{ReadsFiles-nil, ReadsFiles-trans, ReadsFiles-kept, AllByRecursion-push, texts_push, queries_of_push, reads_of_push}
 
--- the run so far: what was read, the lines answered and their turns, and what any further lines will add
+-- the run so far: what was read, the lines answered and their done_queries, and what any further lines will add
 pub record Running (pass users : List Bytes) (told_before told_now : Told) (left_before left_now before now : Option Bytes) (cutter : Cutter) (number budget : ℕ) : Type 0 where
   pub taken : Bytes
   pub answered : List Bytes
-  pub turns : List Turn
+  pub done_queries : List AnsweredQuery
   pub reads : Consumes left_before left_now taken
-  pub writes : Appends before now (texts turns)
+  pub writes : Appends before now (texts done_queries)
   pub fed : record cutter { ready = answered ++ cutter.ready } ≡ after_feed (new_cutter 8192) taken
-  pub asked : (more : List Bytes) → queries_from (answered ++ more) ≡ queries_of turns ++ queries_from more
+  pub asked : (more : List Bytes) → queries_from (answered ++ more) ≡ queries_of done_queries ++ queries_from more
   pub bad : (more : List Bytes) → bad_from 1 (answered ++ more) ≡ bad_from number more
   pub count : number ≡ length answered + 1
   pub bytes : length taken + budget ≡ 2 ^ 30
-  pub are_turns : AllByRecursion (IsTurn pass users told_before.held) turns
-  pub files : ReadsFiles told_before told_now (reads_of turns)
+  pub are_turns : AllByRecursion (IsAnsweredQuery pass users told_before.held) done_queries
+  pub files : ReadsFiles told_before told_now (reads_of done_queries)
 
 -- ---- the definitions at one more line
 
@@ -82,7 +82,7 @@ running_start pass users reported left contents =
     record {
       taken = [];
       answered = [];
-      turns = [];
+      done_queries = [];
       reads = Consumes-nil left;
       writes = Appends-nil contents;
       fed = refl;
@@ -123,7 +123,7 @@ running_fed {pass} {users} {told_before} {told_now} {left_before} {left_now} {be
     record {
       taken = run.taken ++ feeds.bytes;
       answered = run.answered;
-      turns = run.turns;
+      done_queries = run.done_queries;
       reads = Consumes-trans left_before left_now left_new run.taken feeds.bytes run.reads feeds.reads;
       writes = run.writes;
       fed = ap (λ (c : Cutter). record c { ready = run.answered ++ c.ready }) feeds.fed ∙ more_fed run.answered cutter run.taken feeds.bytes run.fed;
@@ -140,25 +140,25 @@ running_fed {pass} {users} {told_before} {told_now} {left_before} {left_now} {be
     }
 
 -- one more query is asked
-asked_more : (answered : List Bytes) (turns : List Turn) (turn : Turn) (line : Bytes) (more : List Bytes)
-    → ((rest : List Bytes) → queries_from (answered ++ rest) ≡ queries_of turns ++ queries_from rest) → query_of line ≡ Some turn.query
-    → queries_from (answered ++ line ∷ more) ≡ queries_of (turns ++ turn ∷ []) ++ queries_from more
-asked_more answered turns turn line more asked spelled =
-    asked (line ∷ more) ∙ ap (λ l. queries_of turns ++ l) (queries_from-query line more turn.query spelled)
-    ∙ sym (append_assoc (queries_of turns) (turn.query ∷ []) (queries_from more))
-    ∙ ap (λ l. l ++ queries_from more) (sym (queries_of_push turns turn))
+asked_more : (answered : List Bytes) (done_queries : List AnsweredQuery) (done_query : AnsweredQuery) (line : Bytes) (more : List Bytes)
+    → ((rest : List Bytes) → queries_from (answered ++ rest) ≡ queries_of done_queries ++ queries_from rest) → query_of line ≡ Some done_query.query
+    → queries_from (answered ++ line ∷ more) ≡ queries_of (done_queries ++ done_query ∷ []) ++ queries_from more
+asked_more answered done_queries done_query line more asked spelled =
+    asked (line ∷ more) ∙ ap (λ l. queries_of done_queries ++ l) (queries_from-query line more done_query.query spelled)
+    ∙ sym (append_assoc (queries_of done_queries) (done_query.query ∷ []) (queries_from more))
+    ∙ ap (λ l. l ++ queries_from more) (sym (queries_of_push done_queries done_query))
 
--- one more turn of a run, and what was read in it
-module _ {pass users : List Bytes} (told_before told_now told_later : Told) (turns : List Turn) (line : Bytes) (takes : TakesTurn pass users line told_now told_later) where
-  turns_pushed : told_now.held ≡ told_before.held → AllByRecursion (IsTurn pass users told_before.held) turns
-      → AllByRecursion (IsTurn pass users told_before.held) (turns ++ takes.turn ∷ [])
+-- one more done_query of a run, and what was read in it
+module _ {pass users : List Bytes} (told_before told_now told_later : Told) (done_queries : List AnsweredQuery) (line : Bytes) (takes : TakesTurn pass users line told_now told_later) where
+  turns_pushed : told_now.held ≡ told_before.held → AllByRecursion (IsAnsweredQuery pass users told_before.held) done_queries
+      → AllByRecursion (IsAnsweredQuery pass users told_before.held) (done_queries ++ takes.done_query ∷ [])
   turns_pushed held all =
-      AllByRecursion-push (IsTurn pass users told_before.held) turns takes.turn all (subst (λ h. IsTurn pass users h takes.turn) held takes.is_turn)
+      AllByRecursion-push (IsAnsweredQuery pass users told_before.held) done_queries takes.done_query all (subst (λ h. IsAnsweredQuery pass users h takes.done_query) held takes.is_turn)
 
-  files_pushed : ReadsFiles told_before told_now (reads_of turns) → ReadsFiles told_before told_later (reads_of (turns ++ takes.turn ∷ []))
+  files_pushed : ReadsFiles told_before told_now (reads_of done_queries) → ReadsFiles told_before told_later (reads_of (done_queries ++ takes.done_query ∷ []))
   files_pushed files =
-      subst (ReadsFiles told_before told_later) (sym (reads_of_push turns takes.turn))
-      (ReadsFiles-trans told_before told_now told_later (reads_of turns) (option_to_list takes.turn.read) files takes.files)
+      subst (ReadsFiles told_before told_later) (sym (reads_of_push done_queries takes.done_query))
+      (ReadsFiles-trans told_before told_now told_later (reads_of done_queries) (option_to_list takes.done_query.read) files takes.files)
 
 -- one more line was answered
 pub running_answered : {pass users : List Bytes} {told_before told_now : Told} {left_before left_now before now : Option Bytes} {old : Cutter} {number budget : ℕ} (told_later : Told) (later : Option Bytes) (new : Cutter) (line : Bytes)
@@ -167,26 +167,26 @@ pub running_answered : {pass users : List Bytes} {told_before told_now : Told} {
     → TurnsWhole pass users line told_now told_later now later
     → Running pass users told_before told_later left_before left_now before later new (number + 1) budget
 running_answered {pass} {users} {told_before} {told_now} {left_before} {left_now} {before} {now} {old} {number} {budget} told_later later new line run first taken whole =
-    let turn = whole.turns.turn in
+    let done_query = whole.done_queries.done_query in
     record {
       taken = run.taken;
       answered = run.answered ++ line ∷ [];
-      turns = run.turns ++ turn ∷ [];
+      done_queries = run.done_queries ++ done_query ∷ [];
       reads = run.reads;
       writes =
-          subst (λ text. Appends before later text) (sym (texts_push run.turns turn))
-          (Appends-trans before now later (texts run.turns) (turn_text turn) run.writes whole.writes);
+          subst (λ text. Appends before later text) (sym (texts_push run.done_queries done_query))
+          (Appends-trans before now later (texts run.done_queries) (answered_text done_query) run.writes whole.writes);
       fed =
           ap (λ (c : Cutter). record c { ready = (run.answered ++ line ∷ []) ++ new.ready }) taken
           ∙ ap (λ ready. record old { ready = ready }) (append_assoc run.answered (line ∷ []) new.ready ∙ ap (λ ready. run.answered ++ ready) (sym first))
           ∙ run.fed;
-      asked = λ more. ap queries_from (append_assoc run.answered (line ∷ []) more) ∙ asked_more run.answered run.turns turn line more run.asked whole.turns.spelled;
+      asked = λ more. ap queries_from (append_assoc run.answered (line ∷ []) more) ∙ asked_more run.answered run.done_queries done_query line more run.asked whole.done_queries.spelled;
       bad = λ more.
-          ap (bad_from 1) (append_assoc run.answered (line ∷ []) more) ∙ run.bad (line ∷ more) ∙ bad_from-query number line more turn.query whole.turns.spelled;
+          ap (bad_from 1) (append_assoc run.answered (line ∷ []) more) ∙ run.bad (line ∷ more) ∙ bad_from-query number line more done_query.query whole.done_queries.spelled;
       count = let count = run.count in omega (arith, length_push run.answered line);
       bytes = run.bytes;
-      are_turns = turns_pushed told_before told_now told_later run.turns line whole.turns run.files.held run.are_turns;
-      files = files_pushed told_before told_now told_later run.turns line whole.turns run.files;
+      are_turns = turns_pushed told_before told_now told_later run.done_queries line whole.done_queries run.files.held run.are_turns;
+      files = files_pushed told_before told_now told_later run.done_queries line whole.done_queries run.files;
     }
 
 -- no line was left to take
@@ -217,7 +217,7 @@ module _ {pass users : List Bytes} {told_before told_now : Told} {left_before le
   long_is : (query_cut run.taken).is_long ≡ cutter.is_long
   long_is = ap (λ (c : Cutter). c.is_long) (sym run.fed)
 
-  queries_are : queries run.taken ≡ queries_of run.turns ++ queries_from cutter.ready
+  queries_are : queries run.taken ≡ queries_of run.done_queries ++ queries_from cutter.ready
   queries_are = ap queries_from lines_are ∙ run.asked cutter.ready
 
   bad_is : bad_from 1 (query_cut run.taken).lines ≡ bad_from number cutter.ready
@@ -235,8 +235,8 @@ module _ {pass users : List Bytes} {told_before told_now : Told} {left_before le
       omega (arith, lines, length-append run.answered cutter.ready, line_cut-few 8192 run.taken)
 
   -- where no line is left
-  all_asked : cutter.ready ≡ [] → queries_of run.turns ≡ queries run.taken
-  all_asked none = sym (queries_are ∙ ap (λ lines. queries_of run.turns ++ queries_from lines) none ∙ append-nil (queries_of run.turns))
+  all_asked : cutter.ready ≡ [] → queries_of run.done_queries ≡ queries run.taken
+  all_asked none = sym (queries_are ∙ ap (λ lines. queries_of run.done_queries ++ queries_from lines) none ∙ append-nil (queries_of run.done_queries))
 
   no_bad : cutter.ready ≡ [] → bad_from 1 (query_cut run.taken).lines ≡ None
   no_bad none = bad_is ∙ ap (bad_from number) none
@@ -258,22 +258,22 @@ module _ {pass users : List Bytes} {told_before told_now : Told} {left_before le
   -- ---- the ends, over what the files, the source and the sink did in the last call
 
   ends : (told_end : Told) (left_end now_end : Option Bytes) (r0 r1 w0 w1 : ℕ) (status : WorkerStatus)
-      → ReadsFiles told_now told_end [] → Keeps left_now left_end → Keeps now now_end → Ends run.taken (texts run.turns) run.turns left_end r0 r1 w0 w1 status
+      → ReadsFiles told_now told_end [] → Keeps left_now left_end → Keeps now now_end → Ends run.taken (texts run.done_queries) run.done_queries left_end r0 r1 w0 w1 status
       → Ran pass users told_before told_end left_before left_end before now_end r0 r1 w0 w1 status
   ends told_end left_end now_end r0 r1 w0 w1 status files kept held how =
       record {
         read = run.taken;
-        turns = run.turns;
-        written = texts run.turns;
+        done_queries = run.done_queries;
+        written = texts run.done_queries;
         reads = Consumes-kept left_before left_now left_end run.taken run.reads kept;
-        writes = Appends-kept before now now_end (texts run.turns) run.writes held;
+        writes = Appends-kept before now now_end (texts run.done_queries) run.writes held;
         are_turns = run.are_turns;
-        files = ReadsFiles-kept told_before told_now told_end (reads_of run.turns) run.files files;
+        files = ReadsFiles-kept told_before told_now told_end (reads_of run.done_queries) run.files files;
         ends = how;
       }
 
   -- the ends between two reads of the source
-  ends_idle : (left_end : Option Bytes) (r0 r1 w0 w1 : ℕ) (status : WorkerStatus) → Keeps left_now left_end → Ends run.taken (texts run.turns) run.turns left_end r0 r1 w0 w1 status
+  ends_idle : (left_end : Option Bytes) (r0 r1 w0 w1 : ℕ) (status : WorkerStatus) → Keeps left_now left_end → Ends run.taken (texts run.done_queries) run.done_queries left_end r0 r1 w0 w1 status
       → Ran pass users told_before told_now left_before left_end before now r0 r1 w0 w1 status
   ends_idle left_end r0 r1 w0 w1 status kept how = ends told_now left_end now r0 r1 w0 w1 status (ReadsFiles-nil told_now) kept (Keeps-refl now) how
 
@@ -311,8 +311,8 @@ module _ {pass users : List Bytes} {told_before told_now : Told} {left_before le
       let front : take (2 ^ 30) (run.taken ++ one.byte ∷ []) ≡ run.taken = take_at run.taken (one.byte ∷ []) (2 ^ 30) full in
       record {
         read = run.taken ++ one.byte ∷ [];
-        turns = run.turns;
-        written = texts run.turns;
+        done_queries = run.done_queries;
+        written = texts run.done_queries;
         reads = Consumes-trans left_before left_now left_end run.taken (one.byte ∷ []) run.reads one.reads;
         writes = run.writes;
         are_turns = run.are_turns;
@@ -333,41 +333,41 @@ module _ {pass users : List Bytes} {told_before told_now : Told} {left_before le
         inl (ap (λ o. or_bad o (query_cut run.taken).is_long (suc (length (query_cut run.taken).lines)))
             (bad_is ∙ ap (bad_from number) first ∙ bad_from-none number line rest bad)),
         within,
-        sym (queries_are ∙ ap (λ lines. queries_of run.turns ++ queries_from lines) first
-            ∙ ap (λ l. queries_of run.turns ++ l) (queries_from-none line rest bad) ∙ append-nil (queries_of run.turns)),
+        sym (queries_are ∙ ap (λ lines. queries_of run.done_queries ++ queries_from lines) first
+            ∙ ap (λ l. queries_of run.done_queries ++ l) (queries_from-none line rest bad) ∙ append-nil (queries_of run.done_queries)),
         refl,
       )
 
   -- the queries answered, and that of the next line
-  next_asked : (turn : Turn) (line : Bytes) (rest : List Bytes) → cutter.ready ≡ line ∷ rest → query_of line ≡ Some turn.query
-      → Begins (queries_of (run.turns ++ turn ∷ [])) (queries run.taken)
-  next_asked turn line rest first spelled =
+  next_asked : (done_query : AnsweredQuery) (line : Bytes) (rest : List Bytes) → cutter.ready ≡ line ∷ rest → query_of line ≡ Some done_query.query
+      → Begins (queries_of (run.done_queries ++ done_query ∷ [])) (queries run.taken)
+  next_asked done_query line rest first spelled =
       record {
         rest = queries_from rest;
-        is_whole = ap queries_from (lines_are ∙ ap (λ ready. run.answered ++ ready) first) ∙ asked_more run.answered run.turns turn line rest run.asked spelled;
+        is_whole = ap queries_from (lines_are ∙ ap (λ ready. run.answered ++ ready) first) ∙ asked_more run.answered run.done_queries done_query line rest run.asked spelled;
       }
 
   pub ends_write : (told_end : Told) (now_end : Option Bytes) (r0 r1 w0 w w1 : ℕ) (line : Bytes) (rest : List Bytes) → cutter.ready ≡ line ∷ rest → w0 ≤ w → TurnsFront pass users line told_now told_end now now_end w w1
       → Ran pass users told_before told_end left_before left_now before now_end r0 r1 w0 w1 WriteFault
   ends_write told_end now_end r0 r1 w0 w w1 line rest first later fails =
-      let turn = fails.turns.turn in
+      let done_query = fails.done_queries.done_query in
       let front = fails.front.front in
       record {
         read = run.taken;
-        turns = run.turns ++ turn ∷ [];
-        written = texts run.turns ++ front;
+        done_queries = run.done_queries ++ done_query ∷ [];
+        written = texts run.done_queries ++ front;
         reads = run.reads;
-        writes = Appends-trans before now now_end (texts run.turns) front run.writes fails.front.writes;
-        are_turns = turns_pushed told_before told_now told_end run.turns line fails.turns run.files.held run.are_turns;
-        files = files_pushed told_before told_now told_end run.turns line fails.turns run.files;
+        writes = Appends-trans before now now_end (texts run.done_queries) front run.writes fails.front.writes;
+        are_turns = turns_pushed told_before told_now told_end run.done_queries line fails.done_queries run.files.held run.are_turns;
+        files = files_pushed told_before told_now told_end run.done_queries line fails.done_queries run.files;
         ends = (
           let rose = fails.front.rose in omega arith,
-          next_asked turn line rest first fails.turns.spelled,
+          next_asked done_query line rest first fails.done_queries.spelled,
           record {
             rest = fails.front.begins.rest;
             is_whole =
-                texts_push run.turns turn ∙ ap (λ text. texts run.turns ++ text) fails.front.begins.is_whole
-                ∙ sym (append_assoc (texts run.turns) front fails.front.begins.rest);
+                texts_push run.done_queries done_query ∙ ap (λ text. texts run.done_queries ++ text) fails.front.begins.is_whole
+                ∙ sym (append_assoc (texts run.done_queries) front fails.front.begins.rest);
           },
         );
       }
@@ -378,20 +378,20 @@ module _ {pass users : List Bytes} {told_before told_now : Told} {left_before le
   ends_memory told_end now_end r0 r1 w0 w1 line rest first held (inl files) =
       ends told_end left_now now_end r0 r1 w0 w1 NoMemory files (Keeps-refl left_now) held (
         record { rest = queries_from cutter.ready; is_whole = queries_are },
-        record { rest = []; is_whole = sym (append-nil (texts run.turns)) },
+        record { rest = []; is_whole = sym (append-nil (texts run.done_queries)) },
       )
   ends_memory told_end now_end r0 r1 w0 w1 line rest first held (inr takes) =
       record {
         read = run.taken;
-        turns = run.turns ++ takes.turn ∷ [];
-        written = texts run.turns;
+        done_queries = run.done_queries ++ takes.done_query ∷ [];
+        written = texts run.done_queries;
         reads = run.reads;
-        writes = Appends-kept before now now_end (texts run.turns) run.writes held;
-        are_turns = turns_pushed told_before told_now told_end run.turns line takes run.files.held run.are_turns;
-        files = files_pushed told_before told_now told_end run.turns line takes run.files;
+        writes = Appends-kept before now now_end (texts run.done_queries) run.writes held;
+        are_turns = turns_pushed told_before told_now told_end run.done_queries line takes run.files.held run.are_turns;
+        files = files_pushed told_before told_now told_end run.done_queries line takes run.files;
         ends = (
-          next_asked takes.turn line rest first takes.spelled,
-          record { rest = turn_text takes.turn; is_whole = texts_push run.turns takes.turn },
+          next_asked takes.done_query line rest first takes.spelled,
+          record { rest = answered_text takes.done_query; is_whole = texts_push run.done_queries takes.done_query },
         );
       }
 
@@ -403,14 +403,14 @@ module _ {pass users : List Bytes} {told_before told_now : Told} {left_before le
       ap (λ (c : Cutter). c.ready) (sym (more_fed run.answered cutter run.taken some.bytes run.fed)) in
       record {
         read = run.taken ++ some.bytes;
-        turns = run.turns;
-        written = texts run.turns;
+        done_queries = run.done_queries;
+        written = texts run.done_queries;
         reads = Consumes-trans left_before left_now left_end run.taken some.bytes run.reads some.reads;
         writes = run.writes;
         are_turns = run.are_turns;
         files = run.files;
         ends = (
           record { rest = queries_from (after_feed cutter some.bytes).ready; is_whole = ap queries_from lines ∙ run.asked (after_feed cutter some.bytes).ready },
-          record { rest = []; is_whole = sym (append-nil (texts run.turns)) },
+          record { rest = []; is_whole = sym (append-nil (texts run.done_queries)) },
         );
       }

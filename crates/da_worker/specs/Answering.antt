@@ -14,7 +14,7 @@ use Rattle.da_worker.specs.declared.answering.LineEnd.{LineEnd}
 use Rattle.da_worker.specs.declared.answering.LineEnd.TheVariants.{Answered, NotQuery, WriteFault, NoMemory}
 use Rattle.da_worker.specs.Output.{WrittenFront}
 use Rattle.da_worker.specs.Passwd.{row}
-use Rattle.da_worker.specs.Turns.{Turn, Told, GotGives, IsTurn, ReadsFiles, fail_line, turn_text}
+use Rattle.da_worker.specs.AnsweredQueries.{AnsweredQuery, Told, GotGives, IsAnsweredQuery, ReadsFiles, fail_line, answered_text}
 
 -- ---- the read of a file
 
@@ -42,22 +42,22 @@ reading_line query Failed = fail_line query.number (codes "file")
 
 -- ---- one line
 
--- the line spells a query, and what its turn reads was read
+-- the line spells a query, and what its done_query reads was read
 pub record TakesTurn (pass users : List Bytes) (line : Bytes) (before now : Told) : Type 0 where
-  pub turn : Turn
-  pub spelled : query_of line ≡ Some turn.query
-  pub is_turn : IsTurn pass users before.held turn
-  pub files : ReadsFiles before now (option_to_list turn.read)
+  pub done_query : AnsweredQuery
+  pub spelled : query_of line ≡ Some done_query.query
+  pub is_turn : IsAnsweredQuery pass users before.held done_query
+  pub files : ReadsFiles before now (option_to_list done_query.read)
 
 -- the whole answer was written
 pub record TurnsWhole (pass users : List Bytes) (line : Bytes) (before now : Told) (contents_before contents_now : Option Bytes) : Type 0 where
-  pub turns : TakesTurn pass users line before now
-  pub writes : Appends contents_before contents_now (turn_text turns.turn)
+  pub done_queries : TakesTurn pass users line before now
+  pub writes : Appends contents_before contents_now (answered_text done_queries.done_query)
 
 -- a front of the answer was written before a fault
 pub record TurnsFront (pass users : List Bytes) (line : Bytes) (before now : Told) (contents_before contents_now : Option Bytes) (faults_before faults_now : ℕ) : Type 0 where
-  pub turns : TakesTurn pass users line before now
-  pub front : WrittenFront (turn_text turns.turn) contents_before contents_now faults_before faults_now
+  pub done_queries : TakesTurn pass users line before now
+  pub front : WrittenFront (answered_text done_queries.done_query) contents_before contents_now faults_before faults_now
 
 abbrev pub AnswersLine : List Bytes → List Bytes → Bytes → Told → Told → Option Bytes → Option Bytes → ℕ → ℕ → LineEnd → Type 0
 AnswersLine pass users line before now contents_before contents_now faults_before faults_now Answered =

@@ -1,5 +1,5 @@
 pub mod Passwd
-pub mod Turns
+pub mod AnsweredQueries
 pub mod Output
 pub mod Answering
 pub mod Fill

@@ -10,7 +10,7 @@ use Rattle.da_query.specs.Queries.{query_of}
 use Rattle.da_worker.specs.declared.worker.WorkerStatus.{WorkerStatus}
 use Rattle.da_worker.specs.declared.worker.WorkerStatus.TheVariants.{Done, BadInput, LongInput, ReadFault, WriteFault, NoMemory}
 use Rattle.da_worker.specs.Output.{Begins}
-use Rattle.da_worker.specs.Turns.{Turn, Told, IsTurn, ReadsFiles, texts, queries_of, reads_of}
+use Rattle.da_worker.specs.AnsweredQueries.{AnsweredQuery, Told, IsAnsweredQuery, ReadsFiles, texts, queries_of, reads_of}
 
 -- ---- the input
 
@@ -52,7 +52,7 @@ first_bad_at_end bytes =
 
 -- ---- the run
 
--- By the status: what was read, which turns were taken, what was written, and what caused the end.
+-- By the status: what was read, which done_queries were taken, what was written, and what caused the end.
 --   Done: the whole input was read, each of its lines is a query and ended by LF, and each was answered.
 --   BadInput: the line of this number is the first that is no query, whatever follows, or the input ends with it, or
 --   within it; and the queries before it were answered.
@@ -61,32 +61,32 @@ first_bad_at_end bytes =
 --   WriteFault: the sink failed, and a front of the answers to the first queries of what was read was written.
 --   NoMemory: a front of the answers to the first queries of what was read was written.
 -- In the first four, all lines read before the end are queries.
-abbrev pub Ends : Bytes → Bytes → List Turn → Option Bytes → ℕ → ℕ → ℕ → ℕ → WorkerStatus → Type 0
-Ends read written turns left reads_before reads_now writes_before writes_now Done =
-    IsAtEnd left × (length read ≤ 2 ^ 30) × (first_bad_at_end read ≡ None) × (queries_of turns ≡ queries read) × (written ≡ texts turns)
-Ends read written turns left reads_before reads_now writes_before writes_now (BadInput line) =
+abbrev pub Ends : Bytes → Bytes → List AnsweredQuery → Option Bytes → ℕ → ℕ → ℕ → ℕ → WorkerStatus → Type 0
+Ends read written done_queries left reads_before reads_now writes_before writes_now Done =
+    IsAtEnd left × (length read ≤ 2 ^ 30) × (first_bad_at_end read ≡ None) × (queries_of done_queries ≡ queries read) × (written ≡ texts done_queries)
+Ends read written done_queries left reads_before reads_now writes_before writes_now (BadInput line) =
     ((first_bad read ≡ Some line) ⊎ (IsAtEnd left × (first_bad_at_end read ≡ Some line))) × (length read ≤ 2 ^ 30)
-    × (queries_of turns ≡ queries read) × (written ≡ texts turns)
-Ends read written turns left reads_before reads_now writes_before writes_now LongInput =
-    (2 ^ 30 < length read) × (first_bad (take (2 ^ 30) read) ≡ None) × (queries_of turns ≡ queries (take (2 ^ 30) read)) × (written ≡ texts turns)
-Ends read written turns left reads_before reads_now writes_before writes_now ReadFault =
-    Rose reads_before reads_now × (first_bad read ≡ None) × (queries_of turns ≡ queries read) × (written ≡ texts turns)
-Ends read written turns left reads_before reads_now writes_before writes_now WriteFault =
-    Rose writes_before writes_now × Begins (queries_of turns) (queries read) × Begins written (texts turns)
-Ends read written turns left reads_before reads_now writes_before writes_now NoMemory =
-    Begins (queries_of turns) (queries read) × Begins written (texts turns)
+    × (queries_of done_queries ≡ queries read) × (written ≡ texts done_queries)
+Ends read written done_queries left reads_before reads_now writes_before writes_now LongInput =
+    (2 ^ 30 < length read) × (first_bad (take (2 ^ 30) read) ≡ None) × (queries_of done_queries ≡ queries (take (2 ^ 30) read)) × (written ≡ texts done_queries)
+Ends read written done_queries left reads_before reads_now writes_before writes_now ReadFault =
+    Rose reads_before reads_now × (first_bad read ≡ None) × (queries_of done_queries ≡ queries read) × (written ≡ texts done_queries)
+Ends read written done_queries left reads_before reads_now writes_before writes_now WriteFault =
+    Rose writes_before writes_now × Begins (queries_of done_queries) (queries read) × Begins written (texts done_queries)
+Ends read written done_queries left reads_before reads_now writes_before writes_now NoMemory =
+    Begins (queries_of done_queries) (queries read) × Begins written (texts done_queries)
 
--- the run of a worker: what it read, the turns taken, what it wrote, and how it ended; what a turn read is told by the
--- files, which failed at least as often as turns say so
+-- the run of a worker: what it read, the done_queries taken, what it wrote, and how it ended; what a done_query read is told by the
+-- files, which failed at least as often as done_queries say so
 pub record Ran (pass users : List Bytes) (told_before told_now : Told) (left_before left_now before now : Option Bytes) (reads_before reads_now writes_before writes_now : ℕ) (status : WorkerStatus) : Type 0 where
   pub read : Bytes
-  pub turns : List Turn
+  pub done_queries : List AnsweredQuery
   pub written : Bytes
   pub reads : Consumes left_before left_now read
   pub writes : Appends before now written
-  pub are_turns : AllByRecursion (IsTurn pass users told_before.held) turns
-  pub files : ReadsFiles told_before told_now (reads_of turns)
-  pub ends : Ends read written turns left_now reads_before reads_now writes_before writes_now status
+  pub are_turns : AllByRecursion (IsAnsweredQuery pass users told_before.held) done_queries
+  pub files : ReadsFiles told_before told_now (reads_of done_queries)
+  pub ends : Ends read written done_queries left_now reads_before reads_now writes_before writes_now status
 
 -- ---- a run without a fault
 

@@ -3,7 +3,7 @@
 ghost use Rattle.std.specs.Prelude.{◌≡◌, ◌++◌, ◌∷◌, [], IfOk, option_copied, decimal};
 ghost use Rattle.da_base.specs.Words.{nth};
 ghost use Rattle.da_tabline.specs.Escapes.{spelled};
-ghost use Rattle.da_worker.specs.Turns.{path_in, path_of, path_for, fail_line};
+ghost use Rattle.da_worker.specs.AnsweredQueries.{path_in, path_of, path_for, fail_line};
 ghost use Rattle.da_worker.specs.Answering.{ReadsFor, AnswersLine, reading_line};
 
 use crate::output::write_all;

@@ -4,7 +4,7 @@ ghost use Rattle.std.specs.Prelude.{ℕ, List, Option, Some};
 ghost use Rattle.da_base.specs.Words.{Bytes};
 ghost use Rattle.da_outside.specs.Causes.{Rose};
 ghost use Rattle.da_worker.specs.declared.worker.WorkerStatus.{WorkerStatus};
-ghost use Rattle.da_worker.specs.Turns.{Told};
+ghost use Rattle.da_worker.specs.AnsweredQueries.{Told};
 ghost use Rattle.da_worker.specs.Run.{Ran, IsGood, IsAnswered};
 
 /// A run over an input whose lines are all queries, and in which neither the source nor the sink failed, answered the

@@ -2,7 +2,7 @@ use Rattle.std.proofs.Common.{refl, sym, ap, ◌∙◌, subst, arith, Err}
 use Rattle.da_base.specs.Words.{Bytes}
 use Rattle.da_config.specs.Reading.{IsRead}
 use Rattle.da_config.specs.SettingsText.{settings_of}
-use Rattle.da_worker.specs.Turns.{Told}
+use Rattle.da_worker.specs.AnsweredQueries.{Told}
 use Rattle.da_app.proofs.CheckLemmas.{reads_long, reads_fault}
 use Rattle.da_app.proofs.settings_file.read_settings.Goals as goal
 

@@ -27,9 +27,9 @@ pub returns-clause-used_again : goal.returns-clause-used_again
 unfolding digits groups_error groups_bytes scan_steps client_message greeting reply_line filter_matches stored_password matches plain_says outcome password_comparison password_compared move login_chain default_settings said names opening attempt_stage request_stage login_of decision reply_delay is_due is_usable with_due_replied after_input after_stage after due_requests effects refusal hits next_entry outputs entry_compares hint
 returns-clause-used_again c = refl
 
-pub returns-clause-past_its_life : goal.returns-clause-past_its_life
+pub returns-clause-past_its_ttl : goal.returns-clause-past_its_ttl
 unfolding digits groups_error groups_bytes scan_steps client_message greeting reply_line filter_matches stored_password matches plain_says outcome password_comparison password_compared move login_chain default_settings said names opening attempt_stage request_stage login_of decision reply_delay is_due is_usable with_due_replied after_input after_stage after due_requests effects refusal hits next_entry outputs entry_compares hint
-returns-clause-past_its_life c = refl
+returns-clause-past_its_ttl c = refl
 
 pub returns-clause-asked_anew : goal.returns-clause-asked_anew
 unfolding digits groups_error groups_bytes scan_steps client_message greeting reply_line filter_matches stored_password matches plain_says outcome password_comparison password_compared move login_chain default_settings said names opening attempt_stage request_stage login_of decision reply_delay is_due is_usable with_due_replied after_input after_stage after due_requests effects refusal hits next_entry outputs entry_compares hint

@@ -1,6 +1,6 @@
 use Rattle.std.proofs.Common.{sym, ◌∙◌, inr}
 use Rattle.std.proofs.KnownBytes.{Keeps-refl}
-use Rattle.da_worker.proofs.TurnLemmas.{takes_turn, turns_whole, turns_front}
+use Rattle.da_worker.proofs.AnsweredLemmas.{takes_turn, turns_whole, turns_front}
 use Rattle.da_worker.proofs.answering.answer_line.Goals as goal
 
 pub returns-in_default-reading_text : goal.returns-in_default-reading_text
