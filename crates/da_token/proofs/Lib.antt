@@ -1,0 +1,4 @@
+pub mod TokenReading
+pub mod PairReading
+pub mod MessageReading
+pub mod OneThing

@@ -1,0 +1,5 @@
+pub mod Json
+pub mod Token
+pub mod Message
+pub mod OauthBearer
+pub mod Reading

@@ -1,0 +1,33 @@
+// Laws of tokens and of OAUTHBEARER: each is a contract, and its function does nothing.
+
+ghost use Rattle.std.specs.Prelude.{◌≡◌, ℕ, List, Option, Some};
+ghost use Rattle.da_base.specs.Words.{Bytes};
+ghost use Rattle.da_schemes.specs.Stored.{StoredPassword};
+ghost use Rattle.da_fields.specs.declared.said.Said.{Said};
+ghost use Rattle.da_token.specs.declared.key.TokenKey.{TokenKey};
+ghost use Rattle.da_token.specs.declared.token.Token.{Token};
+ghost use Rattle.da_token.specs.declared.message.Bearer.{Bearer};
+ghost use Rattle.da_token.specs.Token.{IsToken};
+ghost use Rattle.da_token.specs.OauthBearer.{Presents, OauthBearerSays};
+ghost use Rattle.da_token.specs.Reading.{token_read, bearer_read, oauth_bearer_says};
+
+/// A text is read as a token exactly where it is that token.
+pub fn a_token_is_read_as_it_is_written()
+    ensures read { (text : Bytes) (token : Token) → token_read text ≡ Some token → IsToken text token }
+    ensures written { (text : Bytes) (token : Token) → IsToken text token → token_read text ≡ Some token }
+{}
+
+/// A text is read as a client's message exactly where it spells one that presents what was read.
+pub fn a_message_is_read_as_it_is_spelled()
+    ensures read { (text : Bytes) (bearer : Bearer) → bearer_read text ≡ Some bearer → Presents text bearer }
+    ensures spelled { (text : Bytes) (bearer : Bearer) → Presents text bearer → bearer_read text ≡ Some bearer }
+{}
+
+/// Of any messages under keys, an issuer and a moment of the start one thing comes, with credentials or without, and nothing
+/// else.
+pub fn oauth_bearer_says_one_thing()
+    ensures comes { (keys : List TokenKey) (issuer : Bytes) (start : ℕ) (messages : List Bytes) (stored : Option StoredPassword)
+        → OauthBearerSays keys issuer start messages stored (oauth_bearer_says keys issuer start messages stored) }
+    ensures alone { (keys : List TokenKey) (issuer : Bytes) (start : ℕ) (messages : List Bytes) (stored : Option StoredPassword) (what : Said)
+        → OauthBearerSays keys issuer start messages stored what → what ≡ oauth_bearer_says keys issuer start messages stored }
+{}

@@ -1,0 +1,5 @@
+//! The tests of da_token.
+#![tactic(auto)]
+
+#[cfg(test)]
+mod tests;

@@ -1,0 +1,1 @@
+use da_token::right;
