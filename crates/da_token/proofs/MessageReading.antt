@@ -1,10 +1,10 @@
 -- A message is read as it is spelled.
-use Rattle.std.proofs.Common.{◌≡◌, ℕ, Bool, true, false, cond, not, ◌&&◌, ◌||◌, List, [], ◌∷◌, ◌++◌, map, Option, Some, None, option_map, option_and_then, is_some, eqb, codes, refl, sym, ap, ◌∙◌, subst, inl, inr}
+use Rattle.std.proofs.Common.{◌≡◌, ℕ, Bool, true, false, cond, not, ◌||◌, [], ◌∷◌, ◌++◌, map, Option, Some, None, option_map, option_and_then, is_some, eqb, codes, refl, sym, ap, ◌∙◌, inl, inr}
 use Rattle.std.specs.List.{list_all}
 use Rattle.std.specs.Char.{to_ascii_lowercase}
-use Rattle.std.proofs.lemmas.Bool.{cases_Bool, eqb-true, and_parts, not-true}
+use Rattle.std.proofs.lemmas.Bool.{cases_Bool, eqb-true, and_parts}
 use Rattle.std.proofs.lemmas.List.Elements.{All-nil, All-cons}
-use Rattle.std.proofs.lemmas.Option.{same_Some, cond_some, option_and_then_some}
+use Rattle.std.proofs.lemmas.Option.{same_Some, option_and_then_some}
 use Rattle.std.proofs.lemmas.Slice.Eq.{bytes_eq-Decides}
 use Rattle.da_base.specs.Words.{Bytes, pieces, before_byte, after_byte, after_front}
 use Rattle.da_tabline.specs.Parts.{Lacks}
@@ -15,7 +15,6 @@ use Rattle.da_scram.proofs.Commas.{Lacks-written_authzid}
 use Rattle.da_scram.proofs.NameReading.{name_read-some, name_read_written}
 use Rattle.da_token.specs.declared.message.Bearer.{Bearer}
 use Rattle.da_token.specs.declared.token.Token.{Token}
-use Rattle.da_token.specs.Token.{IsToken}
 use Rattle.da_token.specs.Message.{BearerMessage, is_pair, written_pairs, auth_values, same_letters}
 use Rattle.da_token.specs.OauthBearer.{Presents}
 use Rattle.da_token.specs.Reading.{auth_after, bearer_token, token_after, bearer_of, bearer_with, body_after, bearer_after_flag, bearer_read, token_read}
@@ -163,7 +162,7 @@ presents text rest bearer flag spelled right h =
       message = record { flag = flag; authzid = bearer.authzid; pairs = body.pairs; scheme = credentials.scheme; token = parts.token };
       is_message = record {
         spelled = spelled ∙ ap (λ l. flag ∷ 44 ∷ l) (cut_whole 44 rest (1 ∷ after.body) after.spelled
-          ∙ ap (λ l. l ++ 44 ∷ 1 ∷ after.body) authzid.1 ∙ ap (λ l. written_authzid bearer.authzid ++ 44 ∷ 1 ∷ l) body.spelled);
+            ∙ ap (λ l. l ++ 44 ∷ 1 ∷ after.body) authzid.1 ∙ ap (λ l. written_authzid bearer.authzid ++ 44 ∷ 1 ∷ l) body.spelled);
         has_flag = right;
         has_authzid = authzid.0;
         has_pairs = body.right;
@@ -216,4 +215,4 @@ bearer_read_from text bearer p =
     ap bearer_read is.spelled
     ∙ bearer_read_at m.flag (written_authzid m.authzid ++ 44 ∷ 1 ∷ (written_pairs m.pairs ++ 1 ∷ [])) is.has_flag
     ∙ after_flag_from m.authzid (written_pairs m.pairs ++ 1 ∷ []) m.token bearer is.has_authzid (token_after_from m is.has_pairs is.presented is.is_bearer) p.same_authzid
-      (token_read_from m.token bearer.token p.is_token)
+    (token_read_from m.token bearer.token p.is_token)

@@ -6,12 +6,11 @@ use Rattle.std.proofs.lemmas.Option.{none-some}
 use Rattle.da_base.specs.Words.{Bytes, passes_option}
 use Rattle.da_schemes.specs.Stored.{StoredPassword}
 use Rattle.da_fields.specs.declared.said.Said.{Said}
-use Rattle.da_fields.specs.declared.said.Said.TheVariants.{Bad}
 use Rattle.da_token.specs.declared.key.TokenKey.{TokenKey}
 use Rattle.da_token.specs.declared.message.Bearer.{Bearer}
 use Rattle.da_token.specs.declared.token.Token.{Token}
 use Rattle.da_token.specs.Token.{is_right, IsRightText}
-use Rattle.da_token.specs.OauthBearer.{Presents, OauthBearerSays}
+use Rattle.da_token.specs.OauthBearer.{OauthBearerSays}
 use Rattle.da_token.specs.Reading.{token_read, is_right_text, bearer_read, first_says, oauth_bearer_says}
 use Rattle.da_token.proofs.TokenReading.{token_read-is, token_read_from}
 use Rattle.da_token.proofs.MessageReading.{bearer_read-is, bearer_read_from}
@@ -27,14 +26,17 @@ right_of : (keys : List TokenKey) (issuer : Bytes) (moment : ℕ) (text : Bytes)
 right_of keys issuer moment text None e h = cc
 right_of keys issuer moment text (Some token) e h = record { token = token; is_token = token_read-is text token e; is_right_token = h }
 
-right_from : (keys : List TokenKey) (issuer : Bytes) (moment : ℕ) (text : Bytes) → IsRightText keys issuer moment text → is_right_text keys issuer moment text ≡ true
+pub right_when : (keys : List TokenKey) (issuer : Bytes) (moment : ℕ) (text : Bytes) → is_right_text keys issuer moment text ≡ true → IsRightText keys issuer moment text
+right_when keys issuer moment text h = right_of keys issuer moment text (token_read text) refl h
+
+pub right_from : (keys : List TokenKey) (issuer : Bytes) (moment : ℕ) (text : Bytes) → IsRightText keys issuer moment text → is_right_text keys issuer moment text ≡ true
 right_from keys issuer moment text is =
     ap (passes_option (is_right keys issuer moment)) (token_read_from text is.token is.is_token) ∙ is.is_right_token
 
 pub right_decided : (keys : List TokenKey) (issuer : Bytes) (moment : ℕ) (text : Bytes) (r : Result Bool AllocError)
     → IfOk r (λ answer. answer ≡ is_right_text keys issuer moment text) → IfOk r (λ answer. IsTrue answer ↔ IsRightText keys issuer moment text)
 right_decided keys issuer moment text (Ok answer) e =
-    (λ h. right_of keys issuer moment text (token_read text) refl (sym e ∙ h), λ is. e ∙ right_from keys issuer moment text is)
+    (λ h. right_when keys issuer moment text (sym e ∙ h), λ is. e ∙ right_from keys issuer moment text is)
 right_decided keys issuer moment text (Err fault) e = tt
 
 -- ---- what comes of the messages

@@ -1,11 +1,11 @@
 -- The pairs of a message are read as they are written.
-use Rattle.std.proofs.Common.{◌≡◌, ℕ, ◌+◌, Bool, true, false, cond, not, ◌&&◌, ◌||◌, List, [], ◌∷◌, ◌++◌, length, map, flat_map, Option, Some, None, is_some, eqb, codes, refl, sym, ap, ◌∙◌, subst, inl, inr, append_assoc, arith}
+use Rattle.std.proofs.Common.{◌≡◌, ℕ, Bool, true, false, cond, not, ◌&&◌, List, [], ◌∷◌, ◌++◌, length, Option, Some, None, is_some, eqb, codes, refl, sym, ap, ◌∙◌, subst, inl, inr, append_assoc, arith}
 use Rattle.std.specs.List.{list_all, list_any, join_with_byte}
 use Rattle.std.specs.Char.{is_ascii_alphabetic}
 use Rattle.std.proofs.lemmas.Bool.{cases_Bool, eqb-true, ne_eqb, and_parts, and_from, or_parts, not-true}
 use Rattle.std.proofs.lemmas.List.Elements.{All-nil, All-cons, All-head, All-tail, All-append}
 use Rattle.std.proofs.lemmas.List.Splits.{slice_split_at, join_with_byte-slice_split}
-use Rattle.std.proofs.lemmas.Option.{same_Some, none-some}
+use Rattle.std.proofs.lemmas.Option.{same_Some}
 use Rattle.da_base.specs.Words.{Bytes, pieces, before_byte, after_byte, is_empty}
 use Rattle.da_tabline.specs.Parts.{Lacks, SplitsAt}
 use Rattle.da_tabline.proofs.PartLemmas.{before_byte_at, after_byte_at}
@@ -118,7 +118,7 @@ pair_parts pair h =
     record {
       no_equals = Lacks-letters 61 pair.key refl letters;
       no_end = All-append (λ c. eqb c 1 ≡ false) pair.key (61 ∷ pair.value) (Lacks-letters 1 pair.key refl letters)
-        (All-cons (λ c. eqb c 1 ≡ false) 61 pair.value refl (Lacks-value pair.value (not-true _ tests.1)));
+          (All-cons (λ c. eqb c 1 ≡ false) 61 pair.value refl (Lacks-value pair.value (not-true _ tests.1)));
       first = key.0;
       others = key.1;
       is = key.2;
@@ -136,9 +136,9 @@ reads_pair pair h =
     let after = after_byte_at 61 pair.key pair.value parts.no_equals in
     record {
       written = and_from (is_key (before_byte 61 (pair_text pair))) (is_some (after_byte 61 (pair_text pair)))
-        (ap is_key before ∙ (and_parts (is_key pair.key) (is_value pair.value) h).0) (ap is_some after);
+          (ap is_key before ∙ (and_parts (is_key pair.key) (is_value pair.value) h).0) (ap is_some after);
       auth = ap (λ key. cond (same_letters key (codes "auth")) (after_byte 61 (pair_text pair)) None) before
-        ∙ ap (λ value. cond (same_letters pair.key (codes "auth")) value None) after;
+          ∙ ap (λ value. cond (same_letters pair.key (codes "auth")) value None) after;
     }
 
 -- ---- all pairs
@@ -251,13 +251,14 @@ written_pair-is : (text : Bytes) → Lacks 1 text → is_written_pair text ≡ t
 written_pair-is text lacks h =
     let tests = and_parts (is_key (before_byte 61 text)) (is_some (after_byte 61 text)) h in
     let value = some_value (after_byte 61 text) tests.1 in
-    let whole = cut_whole 61 text value.0 value.1 in
-    (record { key = before_byte 61 text; value = value.0 },
-    record {
-      spelled = whole;
-      right = and_from (is_key (before_byte 61 text)) (is_value value.0) tests.0 (ap not (value_lacks (before_byte 61 text) value.0 (subst (Lacks 1) whole lacks)));
-      auth = ap (λ o. cond (same_letters (before_byte 61 text) (codes "auth")) o None) value.1;
-    })
+    let whole = cut_whole 61 text value.0 value.1 in (
+      record { key = before_byte 61 text; value = value.0 },
+      record {
+        spelled = whole;
+        right = and_from (is_key (before_byte 61 text)) (is_value value.0) tests.0 (ap not (value_lacks (before_byte 61 text) value.0 (subst (Lacks 1) whole lacks)));
+        auth = ap (λ o. cond (same_letters (before_byte 61 text) (codes "auth")) o None) value.1;
+      },
+    )
 
 -- the pieces are these pairs, whose one value of `auth`, with what was found before, is this
 pub record ArePairs (found : Option Bytes) (ps : List Bytes) (value : Bytes) : Type 0 where
@@ -293,7 +294,7 @@ more_pairs found text next more value lacks follow are =
       spelled = ap (λ t. t ∷ next ∷ more) first.1.spelled ∙ ap (λ ps. pair_text pair ∷ ps) are.spelled;
       right = and_from (is_pair pair) (list_all is_pair are.pairs) first.1.right are.right;
       one = listed_step found (same_letters pair.key (codes "auth")) pair.value (auth_values are.pairs) once
-        ∙ ap (λ auth. listed (found_with found auth) ++ auth_values are.pairs) (sym first.1.auth) ∙ are.one;
+          ∙ ap (λ auth. listed (found_with found auth) ++ auth_values are.pairs) (sym first.1.auth) ∙ are.one;
     }
 
 auth_after-is : (found : Option Bytes) (ps : List Bytes) (value : Bytes) → EachLacks ps → auth_after found ps ≡ Some value → ArePairs found ps value

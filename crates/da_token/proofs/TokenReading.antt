@@ -1,14 +1,14 @@
 -- Tokens are read as they are written.
-use Rattle.std.proofs.Common.{◌≡◌, ℕ, ◌≤◌, Bool, true, false, cond, not, ◌&&◌, List, [], ◌∷◌, ◌++◌, length, Option, Some, None, option_map, option_and_then, is_some, eqb, codes, ◌+◌, count_by, refl, sym, ap, ◌∙◌, subst, inl, inr, arith}
-use Rattle.std.specs.Prelude.{bytes_eq, nat_le}
+use Rattle.std.proofs.Common.{◌≡◌, ℕ, ◌≤◌, Bool, true, false, cond, not, ◌&&◌, List, [], ◌∷◌, length, Option, Some, None, option_and_then, is_some, eqb, codes, ◌+◌, count_by, refl, sym, ap, ◌∙◌, subst, arith}
+use Rattle.std.specs.Prelude.{nat_le}
 use Rattle.std.proofs.lemmas.Bool.{eqb-true, eq-eqb, and_parts, leb-true, le-leb}
 use Rattle.std.proofs.lemmas.List.Splits.{length-slice_split}
 use Rattle.std.proofs.lemmas.Slice.Eq.{bytes_eq-Decides}
 use Rattle.da_tabline.specs.Parts.{Lacks, SplitsAt}
 use Rattle.da_schemes.proofs.Pieces.{pieces-Lacks, pieces-SplitsAt}
 use Rattle.std.proofs.lemmas.Option.{same_Some, none-some, cond_some, option_and_then_some}
-use Rattle.serde_json.specs.Data.{Data, null, boolean, number, string, array, object, Num, unsigned, negative, float, Members}
-use Rattle.serde_json.specs.Find.{get, get_member, as_str, as_number, as_u64}
+use Rattle.serde_json.specs.Data.{Data, null, boolean, number, string, array, object, unsigned, negative, float}
+use Rattle.serde_json.specs.Find.{get_member, as_str}
 use Rattle.da_base.specs.Words.{Bytes, pieces, is_empty}
 use Rattle.da_token.specs.declared.token.Claims.{Claims}
 use Rattle.da_token.specs.declared.token.Token.{Token}
@@ -89,7 +89,7 @@ header_in-is part key_id (string s) read h = cc
 header_in-is part key_id (array ds) read h = cc
 header_in-is part key_id (object ms) read h =
     let tests = cond_option (is_hs256 (option_and_then as_str (get_member (codes "alg") ms)) && not (is_some (get_member (codes "crit") ms)))
-      (text_or [] (get_member (codes "kid") ms)) key_id h in
+    (text_or [] (get_member (codes "kid") ms)) key_id h in
     let both = and_parts (is_hs256 (option_and_then as_str (get_member (codes "alg") ms))) (not (is_some (get_member (codes "crit") ms))) tests.0 in
     record {
       members = ms;
@@ -110,14 +110,18 @@ header_read_from : (part key_id : Bytes) → IsHeader part key_id → header_rea
 header_read_from part key_id is =
     ap (option_and_then key_id_in) is.read
     ∙ header_tests (get_member (codes "alg") is.members) (get_member (codes "crit") is.members) (get_member (codes "kid") is.members) key_id
-      is.algorithm is.not_critical is.names_key
+    is.algorithm is.not_critical is.names_key
 
 -- ---- the claims
 
 claims_with-some : (subject : Option Bytes) (expires not_before : Option ℕ) (issuer : Option Bytes) (claims : Claims) → claims_with subject expires not_before issuer ≡ Some claims
     → (subject ≡ Some claims.subject) × (expires ≡ Some claims.expires) × (not_before ≡ Some claims.not_before) × (issuer ≡ Some claims.issuer)
 claims_with-some (Some s) (Some e) (Some n) (Some i) claims h = let same = same_Some _ claims h in (
-  ap (λ (c : Claims). Some c.subject) same, ap (λ (c : Claims). Some c.expires) same, ap (λ (c : Claims). Some c.not_before) same, ap (λ (c : Claims). Some c.issuer) same)
+  ap (λ (c : Claims). Some c.subject) same,
+  ap (λ (c : Claims). Some c.expires) same,
+  ap (λ (c : Claims). Some c.not_before) same,
+  ap (λ (c : Claims). Some c.issuer) same,
+)
 claims_with-some None _ _ _ claims h = cc
 claims_with-some (Some s) None _ _ claims h = cc
 claims_with-some (Some s) (Some e) None _ claims h = cc
@@ -155,7 +159,7 @@ claims_in-is part claims (string s) read h = cc
 claims_in-is part claims (array ds) read h = cc
 claims_in-is part claims (object ms) read h =
     let parts = claims_with-some (subject_in (object ms)) (option_and_then seconds_of (get_member (codes "exp") ms)) (seconds_or 0 (get_member (codes "nbf") ms))
-      (text_or [] (get_member (codes "iss") ms)) claims h in
+    (text_or [] (get_member (codes "iss") ms)) claims h in
     let subject = subject-is (get_member (codes "sub") ms) claims.subject parts.0 in
     let expires = expires-is (get_member (codes "exp") ms) claims.expires parts.1 in
     record {
@@ -183,11 +187,11 @@ claims_read_from part claims is =
     let text : option_and_then as_str (get_member (codes "sub") is.members) ≡ Some claims.subject = ap (option_and_then as_str) is.subject in
     ap (option_and_then claims_in) is.read
     ∙ claims_with_from claims (subject_in (object is.members)) (option_and_then seconds_of (get_member (codes "exp") is.members))
-      (seconds_or 0 (get_member (codes "nbf") is.members)) (text_or [] (get_member (codes "iss") is.members))
-      (ap (option_and_then right_subject) text ∙ right_subject_from claims.subject is.has_subject)
-      (ap (option_and_then seconds_of) is.expires ∙ seconds_of_from is.ending claims.expires is.ends)
-      (seconds_or_from 0 (get_member (codes "nbf") is.members) claims.not_before is.not_before)
-      (text_or_from [] (get_member (codes "iss") is.members) claims.issuer is.issuer)
+    (seconds_or 0 (get_member (codes "nbf") is.members)) (text_or [] (get_member (codes "iss") is.members))
+    (ap (option_and_then right_subject) text ∙ right_subject_from claims.subject is.has_subject)
+    (ap (option_and_then seconds_of) is.expires ∙ seconds_of_from is.ending claims.expires is.ends)
+    (seconds_or_from 0 (get_member (codes "nbf") is.members) claims.not_before is.not_before)
+    (text_or_from [] (get_member (codes "iss") is.members) claims.issuer is.issuer)
 
 -- ---- the signature
 
@@ -257,9 +261,12 @@ pub token_read_from : (text : Bytes) (token : Token) → IsToken text token → 
 unfolding token_read
 token_read_from text token is =
     ap token_in_pieces is.parts
-    ∙ token_with_from (signing_input is.header is.claims) (header_read is.header) (claims_read is.claims) (signature_read is.signature) token
-      (is.signed, header_read_from is.header token.key_id is.is_header, claims_read_from is.claims token.claims is.is_claims,
-      signature_read_from is.signature token.signature is.is_signature is.signature_length)
+    ∙ token_with_from (signing_input is.header is.claims) (header_read is.header) (claims_read is.claims) (signature_read is.signature) token (
+      is.signed,
+      header_read_from is.header token.key_id is.is_header,
+      claims_read_from is.claims token.claims is.is_claims,
+      signature_read_from is.signature token.signature is.is_signature is.signature_length,
+    )
 
 -- ---- a text in parts
 

@@ -1,6 +1,6 @@
 -- The JSON values in a token (RFC 8259; RFC 7515, section 2), over what `serde_json` reads: of a member that occurs twice
 -- the last one stands.
-use Rattle.std.specs.Prelude.{◌≡◌, ℕ, ◌≤◌, List, Option, Some, None, option_and_then, if◌then◌else◌, nat_le}
+use Rattle.std.specs.Prelude.{◌≡◌, ℕ, ◌≤◌, Option, Some, None, option_and_then, if◌then◌else◌, nat_le}
 use Rattle.std.specs.Str.{is_utf8}
 use Rattle.std.specs.Result.{result_ok}
 use Rattle.base64.specs.Engines.{url_safe_no_pad}

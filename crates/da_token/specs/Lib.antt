@@ -3,3 +3,4 @@ pub mod Token
 pub mod Message
 pub mod OauthBearer
 pub mod Reading
+pub mod Example

@@ -1,5 +1,5 @@
 -- The message of OAUTHBEARER (RFC 7628, section 3.1), as it is written.
-use Rattle.std.specs.Prelude.{◌≡◌, ℕ, Bool, true, false, ◌&&◌, ◌||◌, not, List, [], ◌∷◌, ◌++◌, map, flat_map, if◌then◌else◌, ◌==◌, bytes_eq, codes}
+use Rattle.std.specs.Prelude.{◌≡◌, ℕ, Bool, true, ◌&&◌, ◌||◌, not, List, [], ◌∷◌, ◌++◌, map, flat_map, if◌then◌else◌, ◌==◌, bytes_eq, codes}
 use Rattle.std.specs.Char.{is_ascii_alphabetic, to_ascii_lowercase}
 use Rattle.std.specs.List.{list_all, list_any}
 use Rattle.da_base.specs.Words.{Bytes, is_empty}

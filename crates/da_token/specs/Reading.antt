@@ -1,5 +1,5 @@
 -- Tokens and messages, computed from their texts.
-use Rattle.std.specs.Prelude.{◌≡◌, ℕ, Bool, true, false, ◌&&◌, not, List, [], ◌∷◌, Option, Some, None, option_map, option_and_then, is_some, if◌then◌else◌, bytes_eq, length, ◌==◌, codes}
+use Rattle.std.specs.Prelude.{ℕ, Bool, ◌&&◌, not, List, [], ◌∷◌, Option, Some, None, option_map, option_and_then, is_some, if◌then◌else◌, bytes_eq, length, ◌==◌, codes}
 use Rattle.serde_json.specs.Data.{Data}
 use Rattle.serde_json.specs.Find.{get, as_str}
 use Rattle.da_base.specs.Words.{Bytes, pieces, before_byte, after_byte, after_front, is_empty, passes_option}

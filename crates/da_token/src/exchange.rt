@@ -2,13 +2,12 @@
 
 ghost use Rattle.std.specs.Prelude.{◌≡◌, None, IfOk, option_copied};
 ghost use Rattle.da_fields.specs.declared.said.Said.TheVariants.{Need};
-ghost use Rattle.da_token.specs.OauthBearer as words;
-ghost use Rattle.da_token.specs.OauthBearer.{OauthBearerSays};
+ghost use Rattle.da_token.specs.OauthBearer.{OauthBearerSays, judged_says};
 ghost use Rattle.da_token.specs.Reading.{oauth_bearer_says};
 
+use crate::judging::is_right;
 use crate::key::TokenKey;
 use crate::message::{Bearer, read_bearer};
-use crate::judging::is_right;
 use da_fields::{Said, Text};
 use da_schemes::Stored;
 use std::alloc::{AllocError, Global};
@@ -29,8 +28,10 @@ pub fn says(
     start: u64,
     stored: Option<&Stored>,
 ) -> Result<Said, AllocError>
-    ensures says { IfOk result (λ said. OauthBearerSays keys.now issuer.now start messages.now (option_copied stored.entry) said) }
-    ensures value { IfOk result (λ said. said ≡ oauth_bearer_says keys.now issuer.now start messages.now (option_copied stored.entry)) }
+    ensures says { IfOk result (λ said. OauthBearerSays
+        keys.now issuer.now start messages.now (option_copied stored.entry) said) }
+    ensures value { IfOk result (λ said. said
+        ≡ oauth_bearer_says keys.now issuer.now start messages.now (option_copied stored.entry)) }
 {
     said_to(alloc, messages, keys, issuer, start, stored)
 }
@@ -44,7 +45,8 @@ fn said_to(
     start: u64,
     stored: Option<&Stored>,
 ) -> Result<Said, AllocError>
-    ensures { IfOk result (λ said. said ≡ oauth_bearer_says keys.now issuer.now start messages.now (option_copied stored.entry)) }
+    ensures { IfOk result (λ said. said
+        ≡ oauth_bearer_says keys.now issuer.now start messages.now (option_copied stored.entry)) }
 {
     let Some((first, more)) = messages.split_first() else {
         return Ok(Said::Challenge(Text::new(Vec::new(alloc))));
@@ -71,7 +73,7 @@ fn needed(bearer: Bearer) -> Said
 
 // What is said to a token that is right or wrong, and to the messages after it.
 fn said_to_token(alloc: Global, right: bool, more: &[Text]) -> Result<Said, AllocError>
-    ensures { IfOk result (λ said. said ≡ words.judged_says right more.now) }
+    ensures { IfOk result (λ said. said ≡ judged_says right more.now) }
 {
     match more {
         [] if right => Ok(Said::Proof { right, last: None }),

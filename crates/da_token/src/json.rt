@@ -3,7 +3,7 @@
 ghost use Rattle.std.specs.Prelude.{◌≡◌, IfOk, option_map, []};
 ghost use Rattle.serde_json.specs.Find.{as_str};
 ghost use Rattle.serde_json.specs.View.{view};
-ghost use Rattle.da_token.specs.Json as words;
+ghost use Rattle.da_token.specs.Json.{from_base64url, json_of, json_in, text_or, seconds_of, seconds_or};
 
 use base64::DecodeAllocError;
 use base64::engine::general_purpose::URL_SAFE_NO_PAD;
@@ -16,7 +16,7 @@ const LAST_SECOND: u64 = 18_446_744_073_709_551;
 
 /// The bytes that a strict encoding in base64url without padding stands for (RFC 7515, section 2).
 pub(crate) fn decoded(alloc: Global, part: &[u8]) -> Result<Option<Vec<u8>>, AllocError>
-    ensures { IfOk result (λ bytes. option_map (λ b. b.items) bytes ≡ words.from_base64url part.now) }
+    ensures { IfOk result (λ bytes. option_map (λ b. b.items) bytes ≡ from_base64url part.now) }
 {
     match URL_SAFE_NO_PAD.decode(alloc, part) {
         Ok(bytes) => Ok(Some(bytes)),
@@ -27,7 +27,7 @@ pub(crate) fn decoded(alloc: Global, part: &[u8]) -> Result<Option<Vec<u8>>, All
 
 /// The value that a JSON text in UTF-8 has.
 fn json_of(alloc: Global, text: &[u8]) -> Result<Option<Value>, AllocError>
-    ensures { IfOk result (λ value. option_map view value ≡ words.json_of text.now) }
+    ensures { IfOk result (λ value. option_map view value ≡ json_of text.now) }
 {
     let Ok(text) = std::str::from_utf8(text) else {
         return Ok(None);
@@ -41,7 +41,7 @@ fn json_of(alloc: Global, text: &[u8]) -> Result<Option<Value>, AllocError>
 
 /// The value that a part of a token has.
 pub(crate) fn json_in(alloc: Global, part: &[u8]) -> Result<Option<Value>, AllocError>
-    ensures { IfOk result (λ value. option_map view value ≡ words.json_in part.now) }
+    ensures { IfOk result (λ value. option_map view value ≡ json_in part.now) }
 {
     match decoded(alloc, part)? {
         Some(text) => json_of(alloc, &text),
@@ -49,19 +49,30 @@ pub(crate) fn json_in(alloc: Global, part: &[u8]) -> Result<Option<Value>, Alloc
     }
 }
 
+/// The bytes of a text.
+pub(crate) fn copied(alloc: Global, text: &str) -> Result<Text, AllocError>
+    ensures { IfOk result (λ copy. copy ≡ text.now) }
+{
+    Ok(Text::new(Vec::from_slice(alloc, text.as_bytes())?))
+}
+
 /// The text that a value is.
 pub(crate) fn text_of(alloc: Global, value: &Value) -> Result<Option<Text>, AllocError>
     ensures { IfOk result (λ text. text ≡ as_str (view value.now)) }
 {
     match value.as_str() {
-        Some(text) => Ok(Some(Text::new(Vec::from_slice(alloc, text.as_bytes())?))),
+        Some(text) => Ok(Some(copied(alloc, text)?)),
         None => Ok(None),
     }
 }
 
 /// The text of a member, or an empty one where it isn't there. `None` exactly where it is there and no text.
-pub(crate) fn text_or_empty(alloc: Global, member: Option<&Value>) -> Result<Option<Text>, AllocError>
-    ensures { IfOk result (λ text. text ≡ words.text_or [] (option_map (λ v. view v.now) member.entry)) }
+pub(crate) fn text_or_empty(
+    alloc: Global,
+    member: Option<&Value>,
+) -> Result<Option<Text>, AllocError>
+    ensures { IfOk result
+        (λ text. text ≡ text_or [] (option_map (λ v. view v.now) member.entry)) }
 {
     match member {
         Some(value) => text_of(alloc, value),
@@ -71,7 +82,7 @@ pub(crate) fn text_or_empty(alloc: Global, member: Option<&Value>) -> Result<Opt
 
 /// The whole number of seconds that a value is (RFC 7519, section 2: NumericDate).
 pub(crate) fn seconds_of(value: &Value) -> Option<u64>
-    ensures { result ≡ words.seconds_of (view value.now) }
+    ensures { result ≡ seconds_of (view value.now) }
 {
     match value.as_u64() {
         Some(seconds) if seconds <= LAST_SECOND => Some(seconds),
@@ -81,7 +92,7 @@ pub(crate) fn seconds_of(value: &Value) -> Option<u64>
 
 /// The seconds of a member, or 0 where it isn't there. `None` exactly where it is there and no such number.
 pub(crate) fn seconds_or_zero(member: Option<&Value>) -> Option<u64>
-    ensures { result ≡ words.seconds_or 0 (option_map (λ v. view v.now) member.entry) }
+    ensures { result ≡ seconds_or 0 (option_map (λ v. view v.now) member.entry) }
 {
     match member {
         Some(value) => seconds_of(value),

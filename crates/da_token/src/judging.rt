@@ -2,8 +2,7 @@
 
 ghost use Rattle.std.specs.Prelude.{◌≡◌, ◌↔◌, IsTrue, IfOk};
 ghost use Rattle.std.specs.List.{list_any};
-ghost use Rattle.da_token.specs.Token as words;
-ghost use Rattle.da_token.specs.Token.{IsRightText, has_signed};
+ghost use Rattle.da_token.specs.Token.{IsRightText, has_signed, is_in_time, is_issued_by, is_right};
 ghost use Rattle.da_token.specs.Reading.{is_right_text};
 
 use crate::key::TokenKey;
@@ -29,8 +28,10 @@ pub fn right(
     issuer: &[u8],
     moment: u64,
 ) -> Result<bool, AllocError>
-    ensures right { IfOk result (λ answer. IsTrue answer ↔ IsRightText keys.now issuer.now moment token.now) }
-    ensures value { IfOk result (λ answer. answer ≡ is_right_text keys.now issuer.now moment token.now) }
+    ensures right { IfOk result
+        (λ answer. IsTrue answer ↔ IsRightText keys.now issuer.now moment token.now) }
+    ensures value { IfOk result
+        (λ answer. answer ≡ is_right_text keys.now issuer.now moment token.now) }
 {
     judged(alloc, token, keys, issuer, moment)
 }
@@ -42,7 +43,8 @@ fn judged(
     issuer: &[u8],
     moment: u64,
 ) -> Result<bool, AllocError>
-    ensures { IfOk result (λ answer. answer ≡ is_right_text keys.now issuer.now moment token.now) }
+    ensures { IfOk result
+        (λ answer. answer ≡ is_right_text keys.now issuer.now moment token.now) }
 {
     match read_token(alloc, token)? {
         Some(token) => Ok(is_right(keys, issuer, moment, &token)),
@@ -52,7 +54,7 @@ fn judged(
 
 /// Whether some key has signed the token, it is in time, and it is by this issuer.
 pub(crate) fn is_right(keys: &[TokenKey], issuer: &[u8], moment: u64, token: &Token) -> bool
-    ensures { result ≡ words.is_right keys.now issuer.now moment token.now }
+    ensures { result ≡ is_right keys.now issuer.now moment token.now }
 {
     is_signed(keys, token)
         && is_in_time(moment, &token.claims)
@@ -74,15 +76,18 @@ fn is_signed(keys: &[TokenKey], token: &Token) -> bool
 // Whether the key has the id that the token names, and its secret gives the signature. The signatures are compared in all of
 // their bytes, so that the time doesn't tell how many of them are right.
 fn has_signed(token: &Token, key: &TokenKey) -> bool
-    ensures { result ≡ words.has_signed token.now key.now }
+    ensures { result ≡ has_signed token.now key.now }
 {
-    key.id.bytes() == token.key_id.bytes()
-        && same_bytes(&hmac_sha256(key.secret.bytes(), token.signed.bytes()), &token.signature)
+    if key.id.bytes() != token.key_id.bytes() {
+        return false;
+    }
+    let signature = hmac_sha256(key.secret.bytes(), token.signed.bytes());
+    same_bytes(&signature, &token.signature)
 }
 
 // Whether the moment is before the end (RFC 7519, section 4.1.4) and not before the beginning (section 4.1.5).
 fn is_in_time(moment: u64, claims: &Claims) -> bool
-    ensures { result ≡ words.is_in_time moment claims.now }
+    ensures { result ≡ is_in_time moment claims.now }
 {
     let moment = u128::from(moment);
     moment < SECOND * u128::from(claims.expires) && SECOND * u128::from(claims.not_before) <= moment
@@ -90,7 +95,7 @@ fn is_in_time(moment: u64, claims: &Claims) -> bool
 
 // Whether it is by this issuer (RFC 7519, section 4.1.1), where one is asked for.
 fn is_issued_by(issuer: &[u8], claims: &Claims) -> bool
-    ensures { result ≡ words.is_issued_by issuer.now claims.now }
+    ensures { result ≡ is_issued_by issuer.now claims.now }
 {
     issuer.is_empty() || claims.issuer.bytes() == issuer
 }

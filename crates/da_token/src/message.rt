@@ -3,8 +3,7 @@
 ghost use Rattle.std.specs.Prelude.{◌≡◌, [], ◌∷◌, IfOk, is_some, option_copied, option_map, option_and_then};
 ghost use Rattle.da_base.specs.Words.{after_front};
 ghost use Rattle.da_scram.specs.Reading.{flag_read};
-ghost use Rattle.da_token.specs.Reading as reading;
-ghost use Rattle.da_token.specs.Reading.{token_read};
+ghost use Rattle.da_token.specs.Reading.{bearer_after_flag, bearer_of, bearer_read, token_after, token_read};
 
 use crate::names::read_authzid;
 use crate::pairs::token_after;
@@ -24,7 +23,7 @@ pub struct Bearer {
 /// What a message presents (RFC 7628, section 3.1). `None` exactly where the text is none, or its token is none.
 #[tactic(auto, unfolding(crate::specs::Reading::bearer_read))]
 pub(crate) fn read_bearer(alloc: Global, text: &[u8]) -> Result<Option<Bearer>, AllocError>
-    ensures { IfOk result (λ bearer. bearer ≡ reading.bearer_read text.now) }
+    ensures { IfOk result (λ bearer. bearer ≡ bearer_read text.now) }
 {
     match split_at_byte(text, b',') {
         Some((flag, rest)) if is_flag(flag) => read_after_flag(alloc, rest),
@@ -40,7 +39,7 @@ fn is_flag(flag: &[u8]) -> bool
 }
 
 fn read_after_flag(alloc: Global, rest: &[u8]) -> Result<Option<Bearer>, AllocError>
-    ensures { IfOk result (λ bearer. bearer ≡ reading.bearer_after_flag rest.now) }
+    ensures { IfOk result (λ bearer. bearer ≡ bearer_after_flag rest.now) }
 {
     let Some((authzid, after_authzid)) = split_at_byte(rest, b',') else {
         return Ok(None);
@@ -56,7 +55,8 @@ fn read_after_flag(alloc: Global, rest: &[u8]) -> Result<Option<Bearer>, AllocEr
 
 // The token in what follows the header, which begins with 0x01.
 fn token_in(text: &[u8]) -> Option<&[u8]>
-    ensures { option_copied result ≡ option_and_then reading.token_after (after_front (1 ∷ []) text.now) }
+    ensures { option_copied result
+        ≡ option_and_then token_after (after_front (1 ∷ []) text.now) }
 {
     match strip_front(text, &[1]) {
         Some(body) => token_after(body),
@@ -65,7 +65,8 @@ fn token_in(text: &[u8]) -> Option<&[u8]>
 }
 
 fn read_token_of(alloc: Global, authzid: Text, token: &[u8]) -> Result<Option<Bearer>, AllocError>
-    ensures { IfOk result (λ bearer. bearer ≡ option_map (reading.bearer_of authzid) (token_read token.now)) }
+    ensures { IfOk result
+        (λ bearer. bearer ≡ option_map (bearer_of authzid) (token_read token.now)) }
 {
     match read_token(alloc, token)? {
         Some(token) => Ok(Some(Bearer { authzid, token })),

@@ -48,7 +48,8 @@ fn has_no_nul(name: &[u8]) -> bool
 
 // The letters of a written name, without a look at the whole. `None` exactly where its escapes are wrong.
 fn unescaped(alloc: Global, text: &[u8]) -> Result<Option<Vec<u8>>, AllocError>
-    ensures { IfOk result (λ name. option_map (λ letters. letters.items) name ≡ name_from Plainly text.now) }
+    ensures { IfOk result
+        (λ name. option_map (λ letters. letters.items) name ≡ name_from Plainly text.now) }
 {
     let mut name = Vec::new(alloc);
     let mut rest = text;
@@ -67,8 +68,9 @@ fn unescaped(alloc: Global, text: &[u8]) -> Result<Option<Vec<u8>>, AllocError>
 fn first_letter(text: &[u8]) -> Option<(u8, &[u8])>
     requires { 0 < length text.now }
     ensures { MatchOption result (name_from Plainly text.now ≡ None)
-        (λ read. (name_from Plainly text.now ≡ option_map (λ letters. read.0 ∷ letters) (name_from Plainly read.1.now))
-            × (length read.1.now < length text.now)) }
+        (λ read. (name_from Plainly text.now
+        ≡ option_map (λ letters. read.0 ∷ letters) (name_from Plainly read.1.now))
+        × (length read.1.now < length text.now)) }
 {
     if let Some(more) = strip_front(text, b"=2C") {
         return Some((b',', more));

@@ -1,11 +1,11 @@
-// The pairs of a message.
+// The pairs of a
 
 ghost use Rattle.std.specs.Prelude.{◌≡◌, None, if◌then◌else◌, option_copied};
 ghost use Rattle.da_base.specs.Words.{pieces, is_empty};
 ghost use Rattle.std.specs.List.{list_all};
 ghost use Rattle.std.specs.Char.{is_ascii_alphabetic};
-ghost use Rattle.da_token.specs.Message as message;
-ghost use Rattle.da_token.specs.Reading as reading;
+ghost use Rattle.da_token.specs.Message.{is_key, same_letters};
+ghost use Rattle.da_token.specs.Reading.{auth_after, auth_in, bearer_token, found_with, is_written_pair, may_follow, token_after};
 
 use da_tabline::split_at_byte;
 
@@ -16,7 +16,7 @@ const END: u8 = 1;
 /// where it is off this form, or doesn't have the key `auth` once with credentials of the scheme Bearer (RFC 6750, section
 /// 2.1).
 pub(crate) fn token_after(body: &[u8]) -> Option<&[u8]>
-    ensures { option_copied result ≡ reading.token_after body.now }
+    ensures { option_copied result ≡ token_after body.now }
 {
     match auth_value(body) {
         Some(value) => bearer_token(value),
@@ -26,7 +26,7 @@ pub(crate) fn token_after(body: &[u8]) -> Option<&[u8]>
 
 // The value of the one pair `auth`.
 fn auth_value(body: &[u8]) -> Option<&[u8]>
-    ensures { option_copied result ≡ reading.auth_after None (pieces 1 body.now) }
+    ensures { option_copied result ≡ auth_after None (pieces 1 body.now) }
 {
     let mut rest = body;
     let mut found = None;
@@ -45,20 +45,22 @@ fn auth_value(body: &[u8]) -> Option<&[u8]>
 
 // What was found, where nothing follows the end.
 fn found_at_end<'a>(found: Option<&'a [u8]>, more: &[u8]) -> Option<&'a [u8]>
-    ensures { option_copied result ≡ (if is_empty more.now then option_copied found.entry else None) }
+    ensures { option_copied result
+        ≡ (if is_empty more.now then option_copied found.entry else None) }
 {
     if more.is_empty() { found } else { None }
 }
 
 // Whether the pair may follow: `auth` comes once.
 fn may_follow(found: Option<&[u8]>, pair: &[u8]) -> bool
-    ensures { result ≡ reading.may_follow (option_copied found.entry) pair.now }
+    ensures { result ≡ may_follow (option_copied found.entry) pair.now }
 {
     is_written_pair(pair) && !(found.is_some() && auth_in(pair).is_some())
 }
 
 fn found_with<'a>(found: Option<&'a [u8]>, value: Option<&'a [u8]>) -> Option<&'a [u8]>
-    ensures { option_copied result ≡ reading.found_with (option_copied found.entry) (option_copied value.entry) }
+    ensures { option_copied result
+        ≡ found_with (option_copied found.entry) (option_copied value.entry) }
 {
     match found {
         Some(found) => Some(found),
@@ -68,7 +70,7 @@ fn found_with<'a>(found: Option<&'a [u8]>, value: Option<&'a [u8]>) -> Option<&'
 
 // Whether the text is a key of letters, an equals sign and a value.
 fn is_written_pair(pair: &[u8]) -> bool
-    ensures { result ≡ reading.is_written_pair pair.now }
+    ensures { result ≡ is_written_pair pair.now }
 {
     match split_at_byte(pair, b'=') {
         Some((key, _)) => is_key(key),
@@ -77,7 +79,7 @@ fn is_written_pair(pair: &[u8]) -> bool
 }
 
 fn is_key(key: &[u8]) -> bool
-    ensures { result ≡ message.is_key key.now }
+    ensures { result ≡ is_key key.now }
 {
     !key.is_empty() && is_letters(key)
 }
@@ -90,7 +92,7 @@ fn is_letters(key: &[u8]) -> bool
 
 // The value that the pair has under the key `auth`.
 fn auth_in(pair: &[u8]) -> Option<&[u8]>
-    ensures { option_copied result ≡ reading.auth_in pair.now }
+    ensures { option_copied result ≡ auth_in pair.now }
 {
     match split_at_byte(pair, b'=') {
         Some((key, value)) if same_letters(key, b"auth") => Some(value),
@@ -100,7 +102,7 @@ fn auth_in(pair: &[u8]) -> Option<&[u8]>
 
 // The token in credentials of the scheme Bearer.
 fn bearer_token(value: &[u8]) -> Option<&[u8]>
-    ensures { option_copied result ≡ reading.bearer_token value.now }
+    ensures { option_copied result ≡ bearer_token value.now }
 {
     match split_at_byte(value, b' ') {
         Some((scheme, token)) if same_letters(scheme, b"Bearer") => Some(token),
@@ -110,7 +112,7 @@ fn bearer_token(value: &[u8]) -> Option<&[u8]>
 
 // Whether two texts are equal without regard to ASCII case.
 fn same_letters(text: &[u8], other: &[u8]) -> bool
-    ensures { result ≡ message.same_letters text.now other.now }
+    ensures { result ≡ same_letters text.now other.now }
 {
     text.eq_ignore_ascii_case(other)
 }

@@ -3,10 +3,10 @@
 ghost use Rattle.std.specs.Prelude.{◌≡◌, None, IfOk, MatchOption, option_and_then, codes};
 ghost use Rattle.serde_json.specs.Find.{as_str, get};
 ghost use Rattle.serde_json.specs.View.{view};
-ghost use Rattle.da_token.specs.Token as words;
+ghost use Rattle.da_token.specs.Token.{signing_input};
 ghost use Rattle.da_token.specs.Reading.{token_read, token_with, header_read, claims_read, signature_read, right_signature, key_id_in, claims_in, subject_in, is_hs256};
 
-use crate::json::{decoded, json_in, seconds_of, seconds_or_zero, text_or_empty};
+use crate::json::{copied, decoded, json_in, seconds_of, seconds_or_zero, text_or_empty};
 use da_fields::Text;
 use da_tabline::split_at_byte;
 use serde_json::Value;
@@ -47,8 +47,8 @@ struct Parts<'a> {
 // The three parts between the dots. `None` exactly where there are fewer or more.
 fn parts_of(text: &[u8]) -> Option<Parts>
     ensures { MatchOption result (token_read text.now ≡ None)
-        (λ p. token_read text.now ≡ token_with (words.signing_input p.header.now p.claims.now)
-            (header_read p.header.now) (claims_read p.claims.now) (signature_read p.signature.now)) }
+        (λ p. token_read text.now ≡ token_with (signing_input p.header.now p.claims.now)
+        (header_read p.header.now) (claims_read p.claims.now) (signature_read p.signature.now)) }
 {
     let Some((header, after_header)) = split_at_byte(text, b'.') else {
         return None;
@@ -82,7 +82,7 @@ fn read_parts(
     claims: &[u8],
     signature: &[u8],
 ) -> Result<Option<Token>, AllocError>
-    ensures { IfOk result (λ token. token ≡ token_with (words.signing_input header.now claims.now)
+    ensures { IfOk result (λ token. token ≡ token_with (signing_input header.now claims.now)
         (header_read header.now) (claims_read claims.now) (signature_read signature.now)) }
 {
     let Some(signature) = read_signature(alloc, signature)? else {
@@ -124,7 +124,7 @@ fn signature_of(bytes: &[u8]) -> Option<[u8; 32]>
 
 // What is signed.
 fn signing_input(alloc: Global, header: &[u8], claims: &[u8]) -> Result<Text, AllocError>
-    ensures { IfOk result (λ text. text ≡ words.signing_input header.now claims.now) }
+    ensures { IfOk result (λ text. text ≡ signing_input header.now claims.now) }
 {
     let mut text = Vec::from_slice(alloc, header)?;
     text.extend_from_slice(b".")?;
@@ -153,7 +153,8 @@ fn key_id_in(alloc: Global, header: &Value) -> Result<Option<Text>, AllocError>
 
 // Whether the algorithm is HMAC-SHA-256 (RFC 7518, section 3.1).
 fn is_hs256(header: &Value) -> bool
-    ensures { result ≡ is_hs256 (option_and_then as_str (get (codes "alg") (view header.now))) }
+    ensures { result
+        ≡ is_hs256 (option_and_then as_str (get (codes "alg") (view header.now))) }
 {
     match header.get("alg").and_then(Value::as_str) {
         Some(algorithm) => algorithm == "HS256",
@@ -199,7 +200,7 @@ fn subject_in(alloc: Global, claims: &Value) -> Result<Option<Text>, AllocError>
     ensures { IfOk result (λ subject. subject ≡ subject_in (view claims.now)) }
 {
     match claims.get("sub").and_then(Value::as_str) {
-        Some(subject) if !subject.is_empty() => Ok(Some(Text::new(Vec::from_slice(alloc, subject.as_bytes())?))),
+        Some(subject) if !subject.is_empty() => Ok(Some(copied(alloc, subject)?)),
         _ => Ok(None),
     }
 }
