@@ -18,7 +18,8 @@ const TOKEN: &[u8] =
 
 // Headers: the key that signs (0 or 1), what comes of a token with the claims of TOKEN at 1999 (`R`: right, `F`: on its form and
 // not right, `B`: off its form), and the header.
-const HEADERS: &[u8] = b"0R{\"alg\":\"HS256\"}\n0R{\"typ\":\"JWT\",\"alg\":\"HS256\"}\n0R{\"alg\":\"HS256\",\"kid\":\"\"}\n\
+const HEADERS: &[u8] =
+    b"0R{\"alg\":\"HS256\"}\n0R{\"typ\":\"JWT\",\"alg\":\"HS256\"}\n0R{\"alg\":\"HS256\",\"kid\":\"\"}\n\
 0R { \"alg\" :\t\"HS256\" } \n0R{\"\\u0061lg\":\"HS\\u003256\"}\n0R{\"alg\":\"none\",\"alg\":\"HS256\"}\n\
 0R{\"alg\":\"HS256\",\"kid\":7,\"kid\":\"\"}\n0R{\"alg\":\"HS256\",\"b64\":false}\n\
 1R{\"alg\":\"HS256\",\"kid\":\"k\"}\n0F{\"alg\":\"HS256\",\"kid\":\"k\"}\n1F{\"alg\":\"HS256\"}\n\
@@ -33,7 +34,8 @@ const HEADERS: &[u8] = b"0R{\"alg\":\"HS256\"}\n0R{\"typ\":\"JWT\",\"alg\":\"HS2
 0B{\"alg\":\"HS256\",\"x\":\"\xFF\"}\n0B{\"alg\":\"HS256\",\"x\":\"\\ud800\"}";
 
 // Claims, by what comes of a token with them at 1999.
-const CLAIMS: &[u8] = b"R{\"sub\":\"alice\",\"exp\":2}\nR{\"exp\":2,\"sub\":\"\xC3\xA9\"}\nR{\"sub\":\"\\u0000\",\"exp\":2}\n\
+const CLAIMS: &[u8] =
+    b"R{\"sub\":\"alice\",\"exp\":2}\nR{\"exp\":2,\"sub\":\"\xC3\xA9\"}\nR{\"sub\":\"\\u0000\",\"exp\":2}\n\
 R{\"sub\":\"a\",\"exp\":18446744073709551}\nR{\"sub\":\"a\",\"exp\":2,\"nbf\":1}\n\
 R{\"sub\":\"a\",\"exp\":2,\"nbf\":0}\nR{\"sub\":\"a\",\"exp\":2,\"iss\":\"joe\"}\n\
 R{\"sub\":\"a\",\"exp\":2,\"iss\":\"\"}\n\
@@ -60,7 +62,8 @@ B[\"a\",2]\nB2\nB\nB{\"sub\":\"a\",\"exp\":2}}\nB{\"sub\":\"a\xFF\",\"exp\":2}\n
 // d84cbf803b4f083d76a9271762bd351efa56343888932d79106ef8e3a6b1a3c3, and
 // hmac.new(bytes(32), b'eyJhbGciOiJIUzI1NiIsImtpZCI6IngifQ.eyJzdWIiOiJhbGljZSIsImV4cCI6Mn0', 'sha256').digest() is
 // f342e1ef9bb910a1b2ab7c0485a074e9327c62637d31963b2a9097cdf0bfc6a9.
-const TEXTS: &[u8] = b"ReyJhbGciOiJIUzI1NiJ9.eyJzdWIiOiJhbGljZSIsImV4cCI6Mn0.GBUdxVn8iN7SlJsWorJHD-g_7U3TDJe86mVpn-xULZs\n\
+const TEXTS: &[u8] =
+    b"ReyJhbGciOiJIUzI1NiJ9.eyJzdWIiOiJhbGljZSIsImV4cCI6Mn0.GBUdxVn8iN7SlJsWorJHD-g_7U3TDJe86mVpn-xULZs\n\
 FeyJhbGciOiJIUzI1NiJ9.eyJzdWIiOiJhbGljZSIsImV4cCI6Mn0.GRUdxVn8iN7SlJsWorJHD-g_7U3TDJe86mVpn-xULZs\n\
 FeyJhbGciOiJIUzI1NiJ9.eyJzdWIiOiJhbGljZSIsImV4cCI6Mn0.GBUdxVn8iN7SlJsWorJHD-k_7U3TDJe86mVpn-xULZs\n\
 FeyJhbGciOiJIUzI1NiJ9.eyJzdWIiOiJhbGljZSIsImV4cCI6Mn0.GBUdxVn8iN7SlJsWorJHD-g_7U3TDJe86mVpn-xULZo\n\
@@ -89,7 +92,8 @@ BeyJhbGciOiJIUzI1NiJ9..GBUdxVn8iN7SlJsWorJHD-g_7U3TDJe86mVpn-xULZs\nB..\nB.\nB\n
 BeyJhbGciOiJIUzI1NiJ9.eyJzdWIiOiJhbGljZSIsImV4cCI6Mn0.GBUdxVn8iN7SlJsWorJH.D-g_7U3TDJe86mVpn-xULZs";
 
 // Messages with `^` for 0x01 and `$` for TOKEN, by what comes of them before the password is known (`N`: a user is needed).
-const MESSAGES: &[u8] = b"Nn,,^auth=Bearer $^^\nNy,,^auth=Bearer $^^\nNn,a=bob,^auth=Bearer $^^\nNn,a=a=2Cb=3D^,^auth=Bearer $^^\n\
+const MESSAGES: &[u8] =
+    b"Nn,,^auth=Bearer $^^\nNy,,^auth=Bearer $^^\nNn,a=bob,^auth=Bearer $^^\nNn,a=a=2Cb=3D^,^auth=Bearer $^^\n\
 Nn,,^AuTh=bEARER $^^\nNn,,^host=mail.example^port=143^auth=Bearer $^^\nNn,,^auth=Bearer $^x=^^\n\
 Nn,,^x==, =\0^auth=Bearer $^^\nNn,,^author=Bearer x^auth=Bearer $^^\nBp=tls-unique,,^auth=Bearer $^^\n\
 B,,^auth=Bearer $^^\nBN,,^auth=Bearer $^^\nBny,,^auth=Bearer $^^\nBn,^auth=Bearer $^^\nBn,,,^auth=Bearer $^^\n\
@@ -181,7 +185,8 @@ fn message(alloc: Global, form: &[u8], token: &[u8]) -> Result<Vec<u8>, AllocErr
 fn letter(said: &Said) -> u8 {
     match said {
         Said::Challenge(text) if text.bytes().is_empty() => b'C',
-        Said::Challenge(text) if text.bytes() == b"{\"status\":\"invalid_token\"}".as_slice() => b'E',
+        Said::Challenge(text) if text.bytes() == b"{\"status\":\"invalid_token\"}".as_slice() =>
+            b'E',
         Said::Need { .. } => b'N',
         Said::Proof {
             right: true,
@@ -214,52 +219,67 @@ fn judged(alloc: Global, token: &[u8], issuer: &[u8], moment: u64) -> Result<u8,
 }
 
 fn header_is_judged(alloc: Global, case: &[u8]) -> Result<bool, AllocError> {
-    let secret = if case[0] == b'0' { ZEROS } else { LETTERS };
-    let token = signed(alloc, secret, &case[2..], b"{\"sub\":\"alice\",\"exp\":2}")?;
-    Ok(judged(alloc, &token, b"", 1999)? == case[1])
+    let Some((signer, case)) = case.split_first() else {
+        return Ok(false);
+    };
+    let Some((wanted, header)) = case.split_first() else {
+        return Ok(false);
+    };
+    let secret = if *signer == b'0' { ZEROS } else { LETTERS };
+    let token = signed(alloc, secret, header, b"{\"sub\":\"alice\",\"exp\":2}")?;
+    Ok(judged(alloc, &token, b"", 1999)? == *wanted)
 }
 
 #[test]
 fn a_header_is_on_its_form(rt: HostRuntime) -> Result<(), Fail> {
     for case in HEADERS.split(|byte| *byte == b'\n') {
-        assert!(rt; case.len() > 1 && header_is_judged(rt.alloc(), case)?);
+        assert!(rt; header_is_judged(rt.alloc(), case)?);
     }
     Ok(())
 }
 
-fn claims_are_judged(alloc: Global, case: &[u8]) -> Result<bool, AllocError> {
-    let token = signed(alloc, ZEROS, b"{\"alg\":\"HS256\"}", &case[1..])?;
-    Ok(judged(alloc, &token, b"", 1999)? == case[0])
+fn claims_are_judged(alloc: Global, case: &[u8], issuer: &[u8]) -> Result<bool, AllocError> {
+    let Some((wanted, claims)) = case.split_first() else {
+        return Ok(false);
+    };
+    let token = signed(alloc, ZEROS, b"{\"alg\":\"HS256\"}", claims)?;
+    Ok(judged(alloc, &token, issuer, 1999)? == *wanted)
 }
 
 #[test]
 fn claims_are_on_their_form(rt: HostRuntime) -> Result<(), Fail> {
     for case in CLAIMS.split(|byte| *byte == b'\n') {
-        assert!(rt; !case.is_empty() && claims_are_judged(rt.alloc(), case)?);
+        assert!(rt; claims_are_judged(rt.alloc(), case, b"")?);
     }
     Ok(())
 }
 
 fn text_is_judged(alloc: Global, case: &[u8]) -> Result<bool, AllocError> {
-    Ok(judged(alloc, &case[1..], b"", 1999)? == case[0])
+    match case.split_first() {
+        Some((wanted, token)) => Ok(judged(alloc, token, b"", 1999)? == *wanted),
+        None => Ok(false),
+    }
 }
 
 #[test]
 fn a_token_is_on_its_form(rt: HostRuntime) -> Result<(), Fail> {
     for case in TEXTS.split(|byte| *byte == b'\n') {
-        assert!(rt; !case.is_empty() && text_is_judged(rt.alloc(), case)?);
+        assert!(rt; text_is_judged(rt.alloc(), case)?);
     }
     Ok(())
 }
 
 fn message_is_heard(alloc: Global, case: &[u8]) -> Result<bool, AllocError> {
-    Ok(letter(&needed(alloc, &case[1..], TOKEN)?) == case[0])
+    match case.split_first() {
+        Some((wanted, form)) => Ok(letter(&needed(alloc, form, TOKEN)?) == *wanted),
+        None => Ok(false),
+    }
 }
 
 #[test]
 fn a_message_is_on_its_form(rt: HostRuntime) -> Result<(), Fail> {
     for case in MESSAGES.split(|byte| *byte == b'\n') {
-        assert!(rt; !case.is_empty() && message_is_heard(rt.alloc(), case)?);
+        assert!(rt; message_is_heard(rt.alloc(), case)?);
     }
     Ok(())
 }
@@ -287,18 +307,14 @@ fn a_token_is_right_from_its_beginning(rt: HostRuntime) -> Result<(), Fail> {
 }
 
 // Claims by what comes of them where the issuer is `joe`.
-const ISSUERS: &[u8] = b"R{\"sub\":\"a\",\"exp\":2,\"iss\":\"joe\"}\nF{\"sub\":\"a\",\"exp\":2,\"iss\":\"Joe\"}\n\
+const ISSUERS: &[u8] =
+    b"R{\"sub\":\"a\",\"exp\":2,\"iss\":\"joe\"}\nF{\"sub\":\"a\",\"exp\":2,\"iss\":\"Joe\"}\n\
 F{\"sub\":\"a\",\"exp\":2,\"iss\":\"\"}\nF{\"sub\":\"a\",\"exp\":2}\nF{\"sub\":\"a\",\"exp\":2,\"iss\":\"joe2\"}";
-
-fn issuer_is_judged(alloc: Global, case: &[u8]) -> Result<bool, AllocError> {
-    let token = signed(alloc, ZEROS, b"{\"alg\":\"HS256\"}", &case[1..])?;
-    Ok(judged(alloc, &token, b"joe", 1999)? == case[0])
-}
 
 #[test]
 fn a_token_is_by_the_issuer(rt: HostRuntime) -> Result<(), Fail> {
     for case in ISSUERS.split(|byte| *byte == b'\n') {
-        assert!(rt; !case.is_empty() && issuer_is_judged(rt.alloc(), case)?);
+        assert!(rt; claims_are_judged(rt.alloc(), case, b"joe")?);
     }
     Ok(())
 }
@@ -370,7 +386,14 @@ fn needs(alloc: Global, form: &[u8], name: &[u8], other: &[u8]) -> Result<bool, 
 #[test]
 fn the_subject_is_needed(rt: HostRuntime) -> Result<(), Fail> {
     assert!(rt; needs(rt.alloc(), b"n,,^auth=Bearer $^^", b"alice", b"")?);
-    assert!(rt; needs(rt.alloc(), b"y,a=a=2Cb=3D,^auth=Bearer $^^", b"alice", b"a,b=")?);
+    assert!(rt;
+        needs(
+            rt.alloc(),
+            b"y,a=a=2Cb=3D,^auth=Bearer $^^",
+            b"alice",
+            b"a,b="
+        )?
+    );
     Ok(())
 }
 
@@ -382,8 +405,16 @@ const AT_2000: &[u8] = b"C|E+|W+.|W++|W+!|B+..|B+++|B!|B!.|B.|B.+";
 
 fn push_message(alloc: Global, texts: &mut Vec<Text>, sign: u8) -> Result<(), AllocError> {
     match sign {
-        b'+' => push(alloc, texts, &message(alloc, b"n,,^auth=Bearer $^^", TOKEN)?),
-        b'!' => push(alloc, texts, &message(alloc, b"n,,^auth=Bearer $^^", b"x.y.z")?),
+        b'+' => push(
+            alloc,
+            texts,
+            &message(alloc, b"n,,^auth=Bearer $^^", TOKEN)?,
+        ),
+        b'!' => push(
+            alloc,
+            texts,
+            &message(alloc, b"n,,^auth=Bearer $^^", b"x.y.z")?,
+        ),
         _ => push(alloc, texts, b""),
     }
 }
@@ -402,9 +433,26 @@ fn conversation(
     Ok(letter(&says(alloc, &texts, &keys, b"", start, stored)?))
 }
 
-fn conversations_end(alloc: Global, cases: &[u8], start: u64, stored: &Stored) -> Result<bool, AllocError> {
+fn conversation_ends(
+    alloc: Global,
+    case: &[u8],
+    start: u64,
+    stored: &Stored,
+) -> Result<bool, AllocError> {
+    match case.split_first() {
+        Some((wanted, signs)) => Ok(conversation(alloc, signs, start, Some(stored))? == *wanted),
+        None => Ok(false),
+    }
+}
+
+fn conversations_end(
+    alloc: Global,
+    cases: &[u8],
+    start: u64,
+    stored: &Stored,
+) -> Result<bool, AllocError> {
     for case in cases.split(|byte| *byte == b'|') {
-        if case.is_empty() || conversation(alloc, &case[1..], start, Some(stored))? != case[0] {
+        if !conversation_ends(alloc, case, start, stored)? {
             return Ok(false);
         }
     }
@@ -423,9 +471,7 @@ fn a_token_is_judged_at_the_start(rt: HostRuntime) -> Result<(), Fail> {
 }
 
 #[test]
-fn without_a_password_the_first_message_is_looked_at_alone(
-    rt: HostRuntime,
-) -> Result<(), Fail> {
+fn without_a_password_the_first_message_is_looked_at_alone(rt: HostRuntime) -> Result<(), Fail> {
     assert!(rt; conversation(rt.alloc(), b"", 2000, None)? == b'C');
     assert!(rt; conversation(rt.alloc(), b"+..", 2000, None)? == b'N');
     assert!(rt; conversation(rt.alloc(), b"!..", 2000, None)? == b'B');
