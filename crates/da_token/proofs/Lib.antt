@@ -1,3 +1,4 @@
+pub mod Options
 pub mod TokenReading
 pub mod PairReading
 pub mod MessageReading

@@ -18,12 +18,9 @@ use Rattle.da_token.specs.declared.token.Token.{Token}
 use Rattle.da_token.specs.Message.{BearerMessage, is_pair, written_pairs, auth_values, same_letters}
 use Rattle.da_token.specs.OauthBearer.{Presents}
 use Rattle.da_token.specs.Reading.{auth_after, bearer_token, token_after, bearer_of, bearer_with, body_after, bearer_after_flag, bearer_read, token_read}
+use Rattle.da_token.proofs.Options.{cond_option}
 use Rattle.da_token.proofs.TokenReading.{token_read-is, token_read_from}
 use Rattle.da_token.proofs.PairReading.{IsBody, auth-is, auth_from, cut_whole}
-
-cond_option : {A : Type 0} (b : Bool) (o : Option A) (x : A) → cond b o None ≡ Some x → (b ≡ true) × (o ≡ Some x)
-cond_option true o x h = (refl, h)
-cond_option false o x h = cc
 
 -- ---- the header
 

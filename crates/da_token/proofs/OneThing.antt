@@ -12,12 +12,9 @@ use Rattle.da_token.specs.declared.token.Token.{Token}
 use Rattle.da_token.specs.Token.{is_right, IsRightText}
 use Rattle.da_token.specs.OauthBearer.{OauthBearerSays}
 use Rattle.da_token.specs.Reading.{token_read, is_right_text, bearer_read, first_says, oauth_bearer_says}
+use Rattle.da_token.proofs.Options.{none_from}
 use Rattle.da_token.proofs.TokenReading.{token_read-is, token_read_from}
 use Rattle.da_token.proofs.MessageReading.{bearer_read-is, bearer_read_from}
-
-none_from : {A : Type 0} (o : Option A) → ((x : A) → o ≡ Some x → ⊥) → o ≡ None
-none_from None h = refl
-none_from (Some x) h = absurd (h x refl)
 
 -- ---- a token that is right
 

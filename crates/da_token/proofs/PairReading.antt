@@ -12,6 +12,7 @@ use Rattle.da_tabline.proofs.PartLemmas.{before_byte_at, after_byte_at}
 use Rattle.da_schemes.proofs.Pieces.{pieces-Lacks, pieces-SplitsAt}
 use Rattle.da_token.specs.Message.{Pair, is_key, is_value, is_pair, pair_text, written_pairs, auth_values, same_letters}
 use Rattle.da_token.specs.Reading.{is_written_pair, auth_in, may_follow, found_with, auth_after}
+use Rattle.da_token.proofs.Options.{cond_option}
 
 -- ---- the loop over the pieces
 
@@ -213,10 +214,6 @@ pieces_lack (c ∷ cs) =
           let each = subst EachLacks more.2 (pieces_lack cs) in
           rw (e, more.2) (All-cons (λ d. eqb d 1 ≡ false) c more.0 e each.0, each.1)
     ]
-
-cond_option : {A : Type 0} (b : Bool) (o : Option A) (x : A) → cond b o None ≡ Some x → (b ≡ true) × (o ≡ Some x)
-cond_option true o x h = (refl, h)
-cond_option false o x h = cc
 
 some_value : {A : Type 0} (o : Option A) → is_some o ≡ true → (x : A) × (o ≡ Some x)
 some_value None h = cc

@@ -1,5 +1,5 @@
 -- Tokens are read as they are written.
-use Rattle.std.proofs.Common.{◌≡◌, ℕ, ◌≤◌, Bool, true, false, cond, not, ◌&&◌, List, [], ◌∷◌, length, Option, Some, None, option_and_then, is_some, eqb, codes, ◌+◌, count_by, refl, sym, ap, ◌∙◌, subst, arith}
+use Rattle.std.proofs.Common.{◌≡◌, ℕ, ◌≤◌, true, false, cond, not, ◌&&◌, List, [], ◌∷◌, length, Option, Some, None, option_and_then, is_some, eqb, codes, ◌+◌, count_by, refl, sym, ap, ◌∙◌, subst, arith}
 use Rattle.std.specs.Prelude.{nat_le}
 use Rattle.std.proofs.lemmas.Bool.{eqb-true, eq-eqb, and_parts, leb-true, le-leb}
 use Rattle.std.proofs.lemmas.List.Splits.{length-slice_split}
@@ -15,6 +15,7 @@ use Rattle.da_token.specs.declared.token.Token.{Token}
 use Rattle.da_token.specs.Json.{from_base64url, json_in, last_second, IsTextOr, IsSeconds, IsSecondsOr, text_or, second_within, seconds_of, seconds_or}
 use Rattle.da_token.specs.Token.{IsHeader, IsClaims, IsToken, signing_input}
 use Rattle.da_token.specs.Reading.{is_hs256, key_id_in, header_read, right_subject, subject_in, claims_with, claims_in, claims_read, right_signature, signature_read, token_with, token_in_pieces, token_read}
+use Rattle.da_token.proofs.Options.{cond_option}
 
 -- ---- values
 
@@ -75,10 +76,6 @@ is_hs256-is (Some (object ms)) h = cc
 none-is : {A : Type 0} (o : Option A) → not (is_some o) ≡ true → o ≡ None
 none-is None h = refl
 none-is (Some x) h = cc
-
-cond_option : {A : Type 0} (b : Bool) (o : Option A) (x : A) → cond b o None ≡ Some x → (b ≡ true) × (o ≡ Some x)
-cond_option true o x h = (refl, h)
-cond_option false o x h = cc
 
 -- the tests of a header, for each value that it may be
 header_in-is : (part key_id : Bytes) (value : Data) → json_in part ≡ Some value → key_id_in value ≡ Some key_id → IsHeader part key_id

@@ -20,8 +20,8 @@ pub record Presents (text : Bytes) (bearer : Bearer) : Type 0 where
 abbrev pub error_status : Bytes
 error_status = codes "{\"status\":\"invalid_token\"}"
 
--- what comes of a token that is right or wrong, and of the messages after it: a wrong one is told, and any further message
--- ends it
+-- what comes of a token that is right or wrong, and of the messages after it: a wrong one is told, and the next message,
+-- whatever it is, ends it
 abbrev pub judged_says : Bool → List Bytes → Said
 judged_says true [] = Proof true None
 judged_says true (text ∷ more) = Bad

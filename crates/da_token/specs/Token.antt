@@ -21,7 +21,8 @@ pub record IsHeader (part key_id : Bytes) : Type 0 where
   pub not_critical : get_member (codes "crit") members ≡ None
   pub names_key : IsTextOr [] (get_member (codes "kid") members) key_id
 
--- claims (RFC 7519, section 4.1): a subject, when the token ends, and where they are there when it begins and who issued it
+-- claims (RFC 7519, section 4.1): a subject, the second when the token ends, and, where they are there, the second when it
+-- begins and its issuer; without them it begins at second 0, and its issuer is the empty text
 pub record IsClaims (part : Bytes) (claims : Claims) : Type 0 where
   pub members : Members
   pub read : json_in part ≡ Some (object members)

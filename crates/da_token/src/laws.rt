@@ -1,6 +1,8 @@
 // Laws of tokens and of OAUTHBEARER: each is a contract, and its function does nothing.
 
 ghost use Rattle.std.specs.Prelude.{◌≡◌, ℕ, List, [], Option, Some};
+ghost use Rattle.base64.specs.Engines.{url_safe_no_pad};
+ghost use Rattle.base64.specs.GeneralPurpose.{IsBytes, encode_of};
 ghost use Rattle.da_base.specs.Words.{Bytes};
 ghost use Rattle.da_schemes.specs.Stored.{StoredPassword};
 ghost use Rattle.da_fields.specs.declared.said.Said.{Said};
@@ -14,16 +16,26 @@ ghost use Rattle.da_token.specs.Json.{from_base64url};
 ghost use Rattle.da_schemes.specs.Hmac.{hmac_sha256};
 ghost use Rattle.da_token.specs.Example.{example_token, example_keys, rfc_key, rfc_signed, rfc_signature};
 
+/// A part of a token has one spelling: bytes that stand for a part are its encoding in base64url without padding.
+pub fn a_part_has_one_spelling()
+    ensures { (text bytes : Bytes) → IsBytes text
+        → from_base64url text ≡ Some bytes → text ≡ encode_of url_safe_no_pad bytes }
+{}
+
 /// A text is read as a token exactly where it is that token.
 pub fn a_token_is_read_as_it_is_written()
-    ensures read { (text : Bytes) (token : Token) → token_read text ≡ Some token → IsToken text token }
-    ensures written { (text : Bytes) (token : Token) → IsToken text token → token_read text ≡ Some token }
+    ensures read { (text : Bytes) (token : Token)
+        → token_read text ≡ Some token → IsToken text token }
+    ensures written { (text : Bytes) (token : Token)
+        → IsToken text token → token_read text ≡ Some token }
 {}
 
 /// A text is read as a client's message exactly where it spells one that presents what was read.
 pub fn a_message_is_read_as_it_is_spelled()
-    ensures read { (text : Bytes) (bearer : Bearer) → bearer_read text ≡ Some bearer → Presents text bearer }
-    ensures spelled { (text : Bytes) (bearer : Bearer) → Presents text bearer → bearer_read text ≡ Some bearer }
+    ensures read { (text : Bytes) (bearer : Bearer)
+        → bearer_read text ≡ Some bearer → Presents text bearer }
+    ensures spelled { (text : Bytes) (bearer : Bearer)
+        → Presents text bearer → bearer_read text ≡ Some bearer }
 {}
 
 /// Of any messages under keys, an issuer and a moment of the start one thing comes, with credentials or without, and nothing

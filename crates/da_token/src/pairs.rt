@@ -1,9 +1,9 @@
-// The pairs of a
+// The pairs of a message.
 
 ghost use Rattle.std.specs.Prelude.{◌≡◌, None, if◌then◌else◌, option_copied};
-ghost use Rattle.da_base.specs.Words.{pieces, is_empty};
 ghost use Rattle.std.specs.List.{list_all};
 ghost use Rattle.std.specs.Char.{is_ascii_alphabetic};
+ghost use Rattle.da_base.specs.Words.{pieces, is_empty};
 ghost use Rattle.da_token.specs.Message.{is_key, same_letters};
 ghost use Rattle.da_token.specs.Reading.{auth_after, auth_in, bearer_token, found_with, is_written_pair, may_follow, token_after};
 
