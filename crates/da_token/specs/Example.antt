@@ -1,7 +1,8 @@
 -- Tokens that stand in a standard, or were signed by another program.
-use Rattle.std.specs.Prelude.{List, [], ◌∷◌, codes, replicate}
+use Rattle.std.specs.Prelude.{List, [], ◌∷◌, ◌++◌, codes, replicate}
 use Rattle.da_base.specs.Words.{Bytes}
 use Rattle.da_token.specs.declared.key.TokenKey.{TokenKey}
+use Rattle.da_token.specs.Message.{Pair, BearerMessage}
 
 -- ---- RFC 7515, appendix A.1
 
@@ -24,3 +25,26 @@ example_token = codes "eyJhbGciOiJIUzI1NiJ9.eyJzdWIiOiJhbGljZSIsImV4cCI6Mn0.GBUd
 
 abbrev pub example_keys : List TokenKey
 example_keys = record { id = []; secret = replicate 32 0 } ∷ []
+
+-- ---- RFC 7628, section 4.1: the client's message, with 0x01 between its pairs
+
+abbrev pub rfc_text : Bytes
+rfc_text =
+    codes "n,a=user@example.com," ++ 1 ∷ (codes "host=server.example.com" ++ 1 ∷ (codes "port=143" ++ 1 ∷ (codes "auth=Bearer vF9dft4qmTc2Nvb3RlckBhbHRhdmlzdGEuY29tCg==" ++ 1 ∷ 1 ∷ [])))
+
+abbrev pub rfc_pairs : List Pair
+rfc_pairs =
+    record { key = codes "host"; value = codes "server.example.com" }
+    ∷ record { key = codes "port"; value = codes "143" }
+    ∷ record { key = codes "auth"; value = codes "Bearer vF9dft4qmTc2Nvb3RlckBhbHRhdmlzdGEuY29tCg==" }
+    ∷ []
+
+abbrev pub rfc_message : BearerMessage
+rfc_message =
+    record {
+      flag = 110;
+      authzid = codes "user@example.com";
+      pairs = rfc_pairs;
+      scheme = codes "Bearer";
+      token = codes "vF9dft4qmTc2Nvb3RlckBhbHRhdmlzdGEuY29tCg==";
+    }

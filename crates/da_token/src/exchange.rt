@@ -19,7 +19,7 @@ const ERROR_STATUS: &[u8] = b"{\"status\":\"invalid_token\"}";
 /// after 1970-01-01. To no message an empty challenge. Without a stored password only the first message is looked at, and
 /// the subject of its token is needed. With one a token that is right at the start is a right proof, and one that is wrong
 /// is answered by a challenge that tells so, and after any second message is a wrong proof. `Bad` to a first message off its
-/// form, to a message after a right token, and to a third one.
+/// form, to a message after a right token, and to a third one. The only error is want of memory.
 pub fn says(
     alloc: Global,
     messages: &[Text],

@@ -21,6 +21,7 @@ const SECOND: u128 = 1000;
 /// key has the id `kid`, or the empty id where there is none, and the third part is HMAC-SHA-256 under its secret of the
 /// first two as they are written (RFC 7515, section 5.2); where the moment is before `exp` and not before `nbf`; and where
 /// `iss` is the issuer, if that isn't empty. A text off this form isn't right.
+/// The only error is want of memory.
 pub fn right(
     alloc: Global,
     token: &[u8],

@@ -15,6 +15,8 @@ ghost use Rattle.da_token.specs.Reading.{token_read, bearer_read, oauth_bearer_s
 ghost use Rattle.da_token.specs.Json.{from_base64url};
 ghost use Rattle.da_schemes.specs.Hmac.{hmac_sha256};
 ghost use Rattle.da_token.specs.Example.{example_token, example_keys, rfc_key, rfc_signed, rfc_signature};
+ghost use Rattle.da_token.specs.Example.{rfc_text, rfc_message};
+ghost use Rattle.da_token.specs.Message.{IsBearerMessage};
 
 /// A part of a token has one spelling: bytes that stand for a part are its encoding in base64url without padding.
 pub fn a_part_has_one_spelling()
@@ -54,6 +56,11 @@ pub fn oauth_bearer_says_one_thing()
 /// The signature of RFC 7515, appendix A.1, is that of its two parts under its key.
 pub fn the_example_of_rfc_7515_is_signed()
     ensures { from_base64url rfc_signature ≡ Some (hmac_sha256 rfc_key rfc_signed) }
+{}
+
+/// The example of RFC 7628, section 4.1, is a message on the form.
+pub fn the_example_of_rfc_7628_is_a_message()
+    ensures { IsBearerMessage rfc_text rfc_message }
 {}
 
 /// A token that ends at second 2 is right at the last millisecond before it, and not from there on.

@@ -20,5 +20,5 @@ pub use key::TokenKey;
 pub use laws::{
     a_message_is_read_as_it_is_spelled, a_part_has_one_spelling, a_token_is_read_as_it_is_written,
     oauth_bearer_says_one_thing, the_example_is_right_until_its_end,
-    the_example_of_rfc_7515_is_signed,
+    the_example_of_rfc_7515_is_signed, the_example_of_rfc_7628_is_a_message,
 };

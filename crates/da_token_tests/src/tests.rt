@@ -341,6 +341,25 @@ fn json_nests_at_most_127_deep(rt: HostRuntime) -> Result<(), Fail> {
     Ok(())
 }
 
+// Whether claims with an end of so many digits are on their form.
+fn is_long_on_form(alloc: Global, digits: usize) -> Result<bool, AllocError> {
+    let mut claims = Vec::from_slice(alloc, b"{\"sub\":\"a\",\"exp\":")?;
+    for _ in 0..digits {
+        claims.push(b'9')?;
+    }
+    claims.push(b'}')?;
+    let token = signed(alloc, ZEROS, b"{\"alg\":\"HS256\"}", &claims)?;
+    Ok(judged(alloc, &token, b"", 1999)? == b'R')
+}
+
+#[test]
+fn a_number_of_any_length_is_read(rt: HostRuntime) -> Result<(), Fail> {
+    assert!(rt; is_long_on_form(rt.alloc(), 16)?);
+    assert!(rt; !is_long_on_form(rt.alloc(), 20)?);
+    assert!(rt; !is_long_on_form(rt.alloc(), 1_000_000)?);
+    Ok(())
+}
+
 fn rfc_signature(alloc: Global) -> Result<bool, AllocError> {
     let signature = URL_SAFE_NO_PAD.encode(alloc, &hmac_sha256(RFC_KEY, RFC_SIGNED))?;
     Ok(signature.as_bytes() == RFC_SIGNATURE)
