@@ -1,0 +1,2 @@
+pub mod ServiceReading
+pub mod SessionSteps
