@@ -1,2 +1,3 @@
+pub mod PrintedLines
 pub mod ServiceReading
 pub mod SessionSteps

@@ -1,6 +1,6 @@
 -- What is read in a line of the auth service is what the line spells.
-use Rattle.std.proofs.Common.{◌≡◌, ℕ, Bool, true, false, ◌&&◌, ◌||◌, List, [], ◌∷◌, Option, Some, None, cond, refl, sym, ap, ◌∙◌, inl, inr}
-use Rattle.std.specs.Prelude.{bytes_eq, codes, is_some, option_map}
+use Rattle.std.proofs.Common.{◌≡◌, ℕ, Bool, true, false, ◌&&◌, ◌||◌, List, [], ◌∷◌, Option, Some, None, cond, refl, ap, ◌∙◌, inl, inr}
+use Rattle.std.specs.Prelude.{bytes_eq, codes, is_some}
 use Rattle.std.proofs.lemmas.Bool.{cases_Bool, and_parts}
 use Rattle.da_base.specs.Words.{Bytes, number}
 use Rattle.da_tabline.specs.Escapes.{line_fields}
@@ -8,11 +8,9 @@ use Rattle.da_fields.specs.FieldList.{Pairs, field}
 use Rattle.da_msgs.proofs.FieldSpelling.{word_is, some_of_map}
 use Rattle.da_pop3.specs.ServiceLines.{is_version, opening_of, pairs_of, failure_in, challenge_of, success_of, refusal_of, reply_of, found_of, missing_of, lookup_of}
 use Rattle.da_pop3.specs.SessionLaws.{SpellsOk, SpellsUser}
-use Rattle.da_pop3.specs.declared.service.Opening.{Opening}
-use Rattle.da_pop3.specs.declared.service.Opening.TheVariants.{Cookie, Mechanism, Done, Other}
+use Rattle.da_pop3.specs.declared.service.Opening.TheVariants.{Other}
 use Rattle.da_pop3.specs.declared.service.Reply.{Reply}
 use Rattle.da_pop3.specs.declared.service.Reply.TheVariants.{Challenge, Success, Refusal}
-use Rattle.da_pop3.specs.declared.service.Lookup.{Lookup}
 use Rattle.da_pop3.specs.declared.service.Lookup.TheVariants.{Found, Missing}
 
 -- ---- on opening

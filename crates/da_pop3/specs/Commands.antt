@@ -1,5 +1,5 @@
 -- The texts of a client's lines (RFC 1939, sections 4 and 7; RFC 5034, section 4).
-use Rattle.std.specs.Prelude.{ℕ, Bool, ◌&&◌, ◌||◌, not, [], ◌++◌, map, if◌then◌else◌, ◌==◌, bytes_eq, codes}
+use Rattle.std.specs.Prelude.{ℕ, Bool, ◌&&◌, ◌||◌, not, [], map, if◌then◌else◌, ◌==◌, bytes_eq, codes}
 use Rattle.std.specs.Char.{is_ascii_alphanumeric}
 use Rattle.std.specs.List.{list_all, list_any}
 use Rattle.da_base.specs.Words.{Bytes, is_empty, upper}

@@ -1,5 +1,5 @@
 -- What a call on a session gives: its acts and what the session then knows, or a fault, and then nothing has changed.
-use Rattle.std.specs.Prelude.{◌≡◌, List, [], Option, Some, None, Result, Ok, Err, Vec}
+use Rattle.std.specs.Prelude.{◌≡◌, [], Option, Some, None, Result, Ok, Err, Vec}
 use Rattle.std.specs.declared.alloc.AllocError.{AllocError}
 use Rattle.std.specs.declared.alloc.Global.{Global}
 use Rattle.da_base.specs.Words.{Bytes}
@@ -33,8 +33,14 @@ link_line (Auth line) = line
 link_line (Master line) = line
 link_line _ = []
 
+-- the event is this line of a link
+abbrev pub IsLinkLine : Event → Bytes → Type 0
+IsLinkLine (Auth line) text = text ≡ line
+IsLinkLine (Master line) text = text ≡ line
+IsLinkLine _ text = ⊥
+
 -- what a step gives: the acts and the session that the table says; or the line of a link that fits no row, exactly there
 abbrev pub StepGives : State → Event → Result (Vec Act Global) StepFault → State → Type 0
 StepGives old event (Ok acts) new = step old event ≡ Some (acts.items, new)
-StepGives old event (Err (BadPeer line)) new = (step old event ≡ None) × (line ≡ link_line event) × (new ≡ old)
+StepGives old event (Err (BadPeer line)) new = (step old event ≡ None) × IsLinkLine event line × (new ≡ old)
 StepGives old event (Err NoMemory) new = new ≡ old

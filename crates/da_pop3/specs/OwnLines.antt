@@ -1,6 +1,6 @@
 -- The lines that a session sends to the auth service and to its master side.
-use Rattle.std.specs.Prelude.{ℕ, List, [], ◌∷◌, ◌++◌, codes, decimal}
-use Rattle.da_base.specs.Words.{Bytes, to_base64}
+use Rattle.std.specs.Prelude.{ℕ, [], ◌∷◌, ◌++◌, codes, decimal}
+use Rattle.da_base.specs.Words.{Bytes}
 use Rattle.da_tabline.specs.Escapes.{spelled}
 
 abbrev pub pid_line : ℕ → Bytes

@@ -1,5 +1,5 @@
 -- The lines that the auth service and its master side send, cut at TAB and unescaped.
-use Rattle.std.specs.Prelude.{ℕ, Bool, false, ◌&&◌, ◌||◌, List, [], ◌∷◌, map, length, Option, Some, None, option_map, option_and_then, if◌then◌else◌, ◌==◌, nat_le, bytes_eq, codes, is_some}
+use Rattle.std.specs.Prelude.{ℕ, Bool, false, ◌&&◌, ◌||◌, List, [], ◌∷◌, length, Option, None, option_map, if◌then◌else◌, ◌==◌, nat_le, bytes_eq, codes, is_some}
 use Rattle.std.specs.Char.{is_ascii_digit}
 use Rattle.std.specs.List.{list_all}
 use Rattle.da_base.specs.Words.{Bytes, is_empty, number}

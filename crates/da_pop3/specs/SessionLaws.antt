@@ -1,15 +1,19 @@
 -- When a session starts the mail program, whatever it is told.
-use Rattle.std.specs.Prelude.{◌≡◌, ℕ, ◌≤◌, ◌⊎◌, List, [], ◌∷◌, Option, Some, codes, decimal}
-use Rattle.da_base.specs.Words.{Bytes, number}
+use Rattle.std.specs.Prelude.{◌≡◌, ℕ, ◌+◌, ◌<◌, ◌≤◌, ◌^◌, ◌⊎◌, true, List, [], ◌∷◌, Option, Some, codes, decimal, if◌then◌else◌}
+use Rattle.std.specs.List.{AllByRecursion}
+use Rattle.da_base.specs.Words.{Bytes, number, begins_with}
 use Rattle.da_tabline.specs.Escapes.{line_fields, spelled}
-use Rattle.da_fields.specs.FieldList.{Pairs}
+use Rattle.da_tabline.specs.Parts.{Lacks}
+use Rattle.da_fields.specs.FieldList.{Pairs, AreDistinct}
+use Rattle.da_msgs.specs.Replies.{reply_line, master_reply_line}
+use Rattle.da_msgs.specs.declared.client.Reply.TheVariants.{Ok as Okay}
+use Rattle.da_msgs.specs.declared.master.MasterReply.TheVariants.{User}
 use Rattle.da_pop3.specs.ServiceLines.{pairs_of}
 use Rattle.da_pop3.specs.OwnLines.{cancel_line, request_line}
-use Rattle.da_pop3.specs.Sessions.{Happening, Came, Did, Past, past_of, starts, last_to_master, opening_cookie}
+use Rattle.da_pop3.specs.Sessions.{Came, Did, Past, past_of, starts, last_to_master, opening_cookie}
 use Rattle.da_pop3.specs.declared.event.Event.{Event}
-use Rattle.da_pop3.specs.declared.event.Event.TheVariants.{Client, ClientLong, ClientEnd, Auth, Master, MailUp, MailDown}
-use Rattle.da_pop3.specs.declared.event.Act.{Act}
-use Rattle.da_pop3.specs.declared.event.Act.TheVariants.{Say, ToAuth, ToMaster, Start, End}
+use Rattle.da_pop3.specs.declared.event.Event.TheVariants.{Auth, Master}
+use Rattle.da_pop3.specs.declared.event.Act.TheVariants.{ToAuth, Start}
 
 -- ---- lines
 
@@ -32,6 +36,20 @@ pub record SpellsUser (line : Bytes) (id : ℕ) (user : Bytes) (fields : Pairs) 
 abbrev pub IsAuth : ℕ → Bytes → Type 0
 IsAuth id line = (more : List Bytes) × (line ≡ spelled (codes "AUTH" ∷ decimal id ∷ more))
 
+-- no key has an equals sign
+abbrev pub ArePlain : Pairs → Type 0
+ArePlain fields = AllByRecursion (λ p. Lacks 61 p.0) fields
+
+-- what the service prints for a login that it authenticated spells OK, and what it prints for a user spells that user
+abbrev pub PrintedOkIsSpelled : Type 0
+PrintedOkIsSpelled =
+    (id : ℕ) (user : Bytes) (fields : Pairs) (last : Option Bytes) → id < 2 ^ 32 → SpellsOk (reply_line (Okay id user fields last)) id
+
+abbrev pub PrintedUserIsSpelled : Type 0
+PrintedUserIsSpelled =
+    (id : ℕ) (user : Bytes) (fields : Pairs) → id < 2 ^ 32 → ArePlain fields → AreDistinct fields
+    → SpellsUser (master_reply_line (User id user fields)) id user fields
+
 -- ---- logins
 
 -- an AUTH of this id was sent, and no CANCEL of it since
@@ -50,6 +68,23 @@ WasToldOk id (_ ∷ past) = WasToldOk id past
 abbrev pub EndsWithUser : ℕ → Bytes → Pairs → Past → Type 0
 EndsWithUser id user fields (Came (Master line) ∷ past) = SpellsUser line id user fields
 EndsWithUser id user fields _ = ⊥
+
+-- ---- ids
+
+-- how many AUTH lines were sent
+abbrev pub auths : Past → ℕ
+auths [] = 0
+auths (Did (ToAuth line) ∷ past) = if begins_with (codes "AUTH") line then auths past + 1 else auths past
+auths (_ ∷ past) = auths past
+
+-- the id of each AUTH is the next number: 1, 2, 3
+abbrev pub EachAuthIsNext : Past → Type 0
+EachAuthIsNext [] = Unit {0}
+EachAuthIsNext (Did (ToAuth line) ∷ past) = (begins_with (codes "AUTH") line ≡ true → IsAuth (auths past + 1) line) × EachAuthIsNext past
+EachAuthIsNext (_ ∷ past) = EachAuthIsNext past
+
+abbrev pub IdsRise : Type 0
+IdsRise = (pid : ℕ) (events : List Event) → EachAuthIsNext (past_of pid events)
 
 -- ---- starts
 

@@ -6,11 +6,11 @@ use Rattle.da_pop3.specs.State.{State}
 use Rattle.da_pop3.specs.ServiceLines.{opening_of}
 use Rattle.da_pop3.specs.Table.{Turn, step, fresh}
 use Rattle.da_pop3.specs.declared.event.Event.{Event}
-use Rattle.da_pop3.specs.declared.event.Event.TheVariants.{Client, ClientLong, ClientEnd, Auth, Master, MailUp, MailDown}
+use Rattle.da_pop3.specs.declared.event.Event.TheVariants.{Auth}
 use Rattle.da_pop3.specs.declared.event.Act.{Act}
-use Rattle.da_pop3.specs.declared.event.Act.TheVariants.{Say, ToAuth, ToMaster, Start, End}
+use Rattle.da_pop3.specs.declared.event.Act.TheVariants.{ToMaster, Start}
 use Rattle.da_pop3.specs.declared.service.Opening.{Opening}
-use Rattle.da_pop3.specs.declared.service.Opening.TheVariants.{Cookie, Mechanism, Done, Other}
+use Rattle.da_pop3.specs.declared.service.Opening.TheVariants.{Cookie, Done}
 
 pub data Happening : Type 0 where
   Came : Event → Happening

@@ -144,9 +144,12 @@ exchange_turn s line =
 
 -- ---- lines of the auth service
 
+-- the line that asks the master side for the user of the login under way
+abbrev pub own_request : State → Bytes
+own_request s = request_line (request_id s) s.pid (option_or_else s.cookie [] (λ cookie. cookie))
+
 abbrev pub requested : State → Turn
-requested s =
-    (ToMaster (request_line (request_id s) s.pid (option_or_else s.cookie [] (λ cookie. cookie))) ∷ [], moved (AtMaster LookingUp) s)
+requested s = (ToMaster (own_request s) ∷ [], moved (AtMaster LookingUp) s)
 
 -- the client's answer to the last message, which has no text
 abbrev pub last_answer_turn : State → Bytes → Turn

@@ -1,11 +1,9 @@
 // Exchanges of the client with the auth service, and how they end.
 
 ghost use Rattle.std.specs.Prelude.{◌≡◌, [], IfOk};
-ghost use Rattle.da_base.specs.Words.{option_or_else};
 ghost use Rattle.da_pop3.specs.State.{request_id};
-ghost use Rattle.da_pop3.specs.OwnLines.{request_line};
 ghost use Rattle.da_pop3.specs.Giving.{Gives};
-ghost use Rattle.da_pop3.specs.Table.{failed, failure_text, cancelled, too_long, left, asked, exchange_turn, requested, last_answer_turn, challenged, accepted};
+ghost use Rattle.da_pop3.specs.Table.{failed, failure_text, cancelled, too_long, left, asked, exchange_turn, own_request, requested, last_answer_turn, challenged, accepted};
 
 use crate::acts::{one, said, said_at_the_end, say};
 use crate::commands::is_base64;
@@ -128,7 +126,7 @@ impl Pop3 {
     }
 
     fn request_line(&self) -> Result<Text, AllocError>
-        ensures { IfOk result (λ line. line ≡ request_line (request_id self.now) self.now.pid (option_or_else self.now.cookie [] (λ cookie. cookie))) }
+        ensures { IfOk result (λ line. line ≡ own_request self.now) }
     {
         let cookie = match &self.cookie {
             Some(cookie) => cookie.bytes(),

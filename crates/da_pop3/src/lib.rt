@@ -17,5 +17,5 @@ mod service;
 mod step;
 
 pub use event::{Act, Event, Side, StepFault};
-pub use laws::{a_session_starts_once, each_start_is_due};
+pub use laws::{a_session_starts_once, each_start_is_due, ids_rise, printed_lines_are_spelled};
 pub use pop3::Pop3;
