@@ -1,0 +1,5 @@
+//! The tests of da_pop3.
+#![tactic(auto)]
+
+#[cfg(test)]
+mod tests;
