@@ -1,0 +1,5 @@
+//! The tests of da_delay.
+#![tactic(auto)]
+
+#[cfg(test)]
+mod delay_tests;
