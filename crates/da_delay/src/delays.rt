@@ -1,8 +1,8 @@
 // The pairs, in order.
 
-ghost use Rattle.std.specs.Prelude.{◌≡◌, [], ℕ, true, false, if◌then◌else◌, is_some, OnOk, OnErr};
+ghost use Rattle.std.specs.Prelude.{◌≡◌, [], is_some, OnOk, OnErr};
 ghost use Rattle.std.specs.List.{list_any};
-ghost use Rattle.da_delay.specs.Delays.{IsInOrder, has, is_same, is_due, first_due};
+ghost use Rattle.da_delay.specs.Delays.{IsInOrder, HasAlso, HasNoMore, has, is_due, first_due};
 
 use std::alloc::{AllocError, Global};
 use std::collections::BTreeSet;
@@ -39,7 +39,7 @@ impl Delays {
     /// Adds this pair, at its place in the order. A pair that is there already stays as it is. Want of memory changes
     /// nothing.
     pub fn push(&mut self, due: u64, request: u32) -> Result<(), AllocError>
-        ensures added { OnOk result ((q : ℕ × ℕ) → has self.new q ≡ (if is_same (due, request) q then true else has self.old q)) }
+        ensures added { OnOk result (HasAlso (due, request) self.old self.new) }
         ensures order { IsInOrder self.new }
         ensures err { OnErr result (self.new ≡ self.old) }
     {
@@ -62,7 +62,7 @@ impl Delays {
     /// Takes this pair out, and says whether it was there. It takes no memory.
     pub fn remove(&mut self, due: u64, request: u32) -> bool
         ensures was { result ≡ has self.old (due, request) }
-        ensures gone { (q : ℕ × ℕ) → has self.new q ≡ (if is_same (due, request) q then false else has self.old q) }
+        ensures gone { HasNoMore (due, request) self.old self.new }
         ensures order { IsInOrder self.new }
     {
         self.pairs.remove(&(due, request))
