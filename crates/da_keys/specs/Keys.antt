@@ -11,6 +11,12 @@ same_kind Check Check = true
 same_kind User User = true
 same_kind _ _ = false
 
+-- a number for each kind, by which keys are hashed
+abbrev pub kind_number : QueryKind → ℕ
+kind_number Pass = 0
+kind_number Check = 1
+kind_number User = 2
+
 abbrev pub same_key : Key → Key → Bool
 same_key a b = same_kind a.kind b.kind && (a.db == b.db) && bytes_eq a.user b.user
 

@@ -1,6 +1,7 @@
 //! The keys under which answers are kept, and the list of those that a cache has, the most recent first.
 #![tactic(auto)]
 
+mod equality;
 mod key;
 mod keys;
 
