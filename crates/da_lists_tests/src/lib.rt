@@ -1,6 +1,8 @@
-//! The tests of da_delay and da_pool.
+//! The tests of da_cache, da_delay and da_pool.
 #![tactic(auto)]
 
+#[cfg(test)]
+mod cache_tests;
 #[cfg(test)]
 mod delay_tests;
 #[cfg(test)]

@@ -1,0 +1,4 @@
+mod Found
+mod PairLists
+mod Standing
+mod Users
