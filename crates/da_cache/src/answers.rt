@@ -1,4 +1,4 @@
-// The steps on the list of pairs, each of which takes no memory but `store`.
+// The steps on the list of pairs, of which `store` and `hold` alone take memory.
 
 ghost use Rattle.std.specs.Prelude.{◌≡◌, ◌∷◌, ◌+◌, ◌≤◌, None, true, is_some, length, take, IsOk, OnOk, OnErr};
 ghost use Rattle.lru.specs.LruCache.{lru_cache};
