@@ -30,7 +30,7 @@ use Rattle.da_app.specs.Play.{Plays, WritesReply, ending}
 full_refuses : (s : Settings) (h : List Entry) (m : ℕ) (input : Input) → is_full s h ≡ true → reply s h m input ≡ Err HistoryFull
 unfolding refusal
 full_refuses s h m input full =
-    ap (λ (b : Bool). option_or_else {A = Refused} {B = Result Outputs Refused} (cond b (Some HistoryFull) (input_refusal s (state s h) (entry_moment h m) input)) (Ok (outputs s h (next_entry s h m input))) (λ r. Err r)) full
+    ap (λ (b : Bool). option_or_else {A = Refused} {B = Result Outputs Refused} (cond b (Some HistoryFull) (input_refusal s (tables_of s h) (entry_moment h m) input)) (Ok (outputs s h (next_entry s h m input))) (λ r. Err r)) full
 
 abbrev is_other : Result Outputs Refused → Type 0
 is_other (Ok out) = Unit {0}
@@ -89,9 +89,9 @@ told_full s h m input e =
       | inr room ↦
           let refuses : refusal s h (entry_moment h m) input ≡ Some HistoryFull =
           refusal_is (refusal s h (entry_moment h m) input) (outputs s h (next_entry s h m input)) HistoryFull e in
-          let same : refusal s h (entry_moment h m) input ≡ input_refusal s (state s h) (entry_moment h m) input =
-          ap (λ (b : Bool). cond b (Some HistoryFull) (input_refusal s (state s h) (entry_moment h m) input)) room in
-          absurd (input_not_full s (state s h) (entry_moment h m) input (sym same ∙ refuses))
+          let same : refusal s h (entry_moment h m) input ≡ input_refusal s (tables_of s h) (entry_moment h m) input =
+          ap (λ (b : Bool). cond b (Some HistoryFull) (input_refusal s (tables_of s h) (entry_moment h m) input)) room in
+          absurd (input_not_full s (tables_of s h) (entry_moment h m) input (sym same ∙ refuses))
     ]
 
 -- ---- where the history stays

@@ -68,7 +68,7 @@ pub record IsOff (left_before left_now : Option Bytes) : Type 0 where
   pub off : (513 < length read) ⊎ (IsAtEnd left_now × IsNoPasswordLine read)
 
 -- the whole input was read and is the line of this password, and this salt of sixteen bytes was drawn for it
-pub record Hears (before now : PwOutside) : Type 0 where
+pub record WasGiven (before now : PwOutside) : Type 0 where
   pub input : Bytes
   pub plain : Bytes
   pub salt : Bytes
@@ -85,14 +85,14 @@ stored_line scheme plain salt = made scheme plain salt ++ 10 ∷ []
 
 -- that line was written, and its text is read as a password of the scheme, whatever the default scheme, and matches
 pub record Stores (scheme : Scheme) (before now : PwOutside) : Type 0 where
-  pub heard : Hears before now
-  pub writes : Appends before.contents now.contents (stored_line scheme heard.plain heard.salt)
-  pub right : (default : Scheme) → IsMade default scheme heard.plain (made scheme heard.plain heard.salt)
+  pub given : WasGiven before now
+  pub writes : Appends before.contents now.contents (stored_line scheme given.plain given.salt)
+  pub right : (default : Scheme) → IsMade default scheme given.plain (made scheme given.plain given.salt)
 
 -- a front of that line was written before a fault
 pub record StoresFront (scheme : Scheme) (before now : PwOutside) : Type 0 where
-  pub heard : Hears before now
-  pub front : WrittenFront (stored_line scheme heard.plain heard.salt) before.contents now.contents before.write_faults now.write_faults
+  pub given : WasGiven before now
+  pub front : WrittenFront (stored_line scheme given.plain given.salt) before.contents now.contents before.write_faults now.write_faults
 
 -- By the scheme and the status. Nothing else comes.
 --   Usage: exactly where the words are off their form; nothing is read or written, and no salt is drawn.

@@ -33,7 +33,7 @@ returns-in_default-line_of g c = (record { bytes = c.in-Whole.bytes.items; reads
 pub returns-in-Ok-write_all : goal.returns-in-Ok-write_all
 returns-in-Ok-write_all g c =
     record {
-      known = record {
+      given = record {
         input = c.in-Whole.bytes.items;
         plain = c.in-Some.plain.now;
         salt = c.bytes-salt.result;
@@ -53,7 +53,7 @@ returns-in-Ok-write_all g c =
 pub returns : goal.returns
 returns g c =
     record {
-      known = record {
+      given = record {
         input = c.in-Whole.bytes.items;
         plain = c.in-Some.plain.now;
         salt = c.bytes-salt.result;
