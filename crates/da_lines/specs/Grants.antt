@@ -16,6 +16,7 @@ login_grant settings moment serves number r =
     then option_map (λ lookup. record { request = number; lookup = lookup }) (option_and_then (lookup_with r.body) (decision settings r))
     else None
 
+-- the login of a request, where it may still be used
 abbrev pub usable_login : Settings → ℕ → Tables → ℕ → Request → Option Grant
 usable_login settings moment tables number r = login_grant settings moment (is_used tables number) number r
 
