@@ -63,7 +63,7 @@ fn range_fault(alloc: Global) -> Result<Fault, AllocError>
     ensures { IfOk result (λ fault. fault ≡ fault_at_all Range) }
 {
     Ok(Fault {
-        place: Text::new(Vec::from_slice(alloc, b"settings")?),
+        place: Text::from_slice(alloc, b"settings")?,
         kind: FaultKind::Range,
     })
 }

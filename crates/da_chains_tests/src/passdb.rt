@@ -34,19 +34,11 @@ enum Scene {
     Scram,
 }
 
-fn text(alloc: Global, bytes: &[u8]) -> Result<Text, AllocError> {
-    Ok(Text::new(Vec::from_slice(alloc, bytes)?))
-}
-
-fn variable(alloc: Global, bytes: &[u8]) -> Result<VarText, AllocError> {
-    Ok(VarText::new(Vec::from_slice(alloc, bytes)?))
-}
-
 fn worker(alloc: Global, number: u32) -> Result<Passdb, AllocError> {
     Ok(Passdb {
         number,
         driver: Driver::Worker,
-        args: text(alloc, b"")?,
+        args: Text::from_slice(alloc, b"")?,
         deny: false,
         master: false,
         skip: Skip::Never,
@@ -54,7 +46,7 @@ fn worker(alloc: Global, number: u32) -> Result<Passdb, AllocError> {
         result_failure: Rule::Continue,
         result_internalfail: Rule::Continue,
         default_scheme: Scheme::Plain,
-        username_filter: text(alloc, b"")?,
+        username_filter: Text::from_slice(alloc, b"")?,
         default_fields: Fields::new(alloc),
         override_fields: Fields::new(alloc),
     })
@@ -73,9 +65,10 @@ fn databases(alloc: Global, scene: Scene) -> Result<Vec<Passdb>, AllocError> {
         Scene::MasterReturns => first.master = true,
         Scene::ContinueOk => {
             first.result_success = Rule::ContinueOk;
-            first
-                .override_fields
-                .set(text(alloc, b"quota")?, text(alloc, b"%s")?)?;
+            first.override_fields.set(
+                Text::from_slice(alloc, b"quota")?,
+                Text::from_slice(alloc, b"%s")?,
+            )?;
         }
         Scene::SkipsAuthenticated => {
             first.result_success = Rule::ContinueOk;
@@ -85,7 +78,7 @@ fn databases(alloc: Global, scene: Scene) -> Result<Vec<Passdb>, AllocError> {
             first.result_success = Rule::Continue;
             second.driver = Driver::Checkpassword;
         }
-        Scene::Filter => first.username_filter = text(alloc, b"*@example.com")?,
+        Scene::Filter => first.username_filter = Text::from_slice(alloc, b"*@example.com")?,
         Scene::ReturnFail => {
             first.result_success = Rule::ContinueOk;
             second.result_internalfail = Rule::ReturnFail;
@@ -100,22 +93,22 @@ fn databases(alloc: Global, scene: Scene) -> Result<Vec<Passdb>, AllocError> {
 // A login with the password `pw`.
 fn login(alloc: Global, scene: Scene) -> Result<Login, AllocError> {
     let (user, master): (&[u8], Option<Text>) = match scene {
-        Scene::Master | Scene::MasterReturns => (b"bob", Some(text(alloc, b"root")?)),
+        Scene::Master | Scene::MasterReturns => (b"bob", Some(Text::from_slice(alloc, b"root")?)),
         _ => (b"alice", None),
     };
     Ok(Login {
-        user: text(alloc, user)?,
+        user: Text::from_slice(alloc, user)?,
         master,
         proof: match scene {
             Scene::Cram => Proof::Cram,
             Scene::Scram => Proof::Scram,
-            _ => Proof::Plain(text(alloc, b"pw")?),
+            _ => Proof::Plain(Text::from_slice(alloc, b"pw")?),
         },
         vars: Vars {
-            user: variable(alloc, user)?,
-            service: variable(alloc, b"imap")?,
-            rip: variable(alloc, b"127.0.0.1")?,
-            lip: variable(alloc, b"127.0.0.1")?,
+            user: VarText::from_slice(alloc, user)?,
+            service: VarText::from_slice(alloc, b"imap")?,
+            rip: VarText::from_slice(alloc, b"127.0.0.1")?,
+            lip: VarText::from_slice(alloc, b"127.0.0.1")?,
         },
     })
 }
@@ -132,11 +125,14 @@ fn answer(alloc: Global, reported: &[u8]) -> Result<Answer, AllocError> {
         return Ok(Answer::Unknown);
     };
     let mut words = rest.split(|byte| *byte == b' ');
-    let stored = text(alloc, words.next().unwrap_or(b""))?;
+    let stored = Text::from_slice(alloc, words.next().unwrap_or(b""))?;
     let mut fields = Fields::new(alloc);
     for word in words {
         let (key, value) = key_and_value(word);
-        fields.set(text(alloc, key)?, text(alloc, value)?)?;
+        fields.set(
+            Text::from_slice(alloc, key)?,
+            Text::from_slice(alloc, value)?,
+        )?;
     }
     Ok(match *letter {
         b'F' => Answer::Found { stored, fields },

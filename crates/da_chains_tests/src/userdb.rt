@@ -21,19 +21,11 @@ enum Scene {
     SkipsNotFound,
 }
 
-fn text(alloc: Global, bytes: &[u8]) -> Result<Text, AllocError> {
-    Ok(Text::new(Vec::from_slice(alloc, bytes)?))
-}
-
-fn variable(alloc: Global, bytes: &[u8]) -> Result<VarText, AllocError> {
-    Ok(VarText::new(Vec::from_slice(alloc, bytes)?))
-}
-
 fn worker(alloc: Global, number: u32) -> Result<Userdb, AllocError> {
     Ok(Userdb {
         number,
         driver: UserDriver::Worker,
-        args: text(alloc, b"")?,
+        args: Text::from_slice(alloc, b"")?,
         skip: UserSkip::Never,
         result_success: UserRule::ReturnOk,
         result_failure: UserRule::Continue,
@@ -51,12 +43,14 @@ fn databases(alloc: Global, scene: Scene) -> Result<Vec<Userdb>, AllocError> {
         Scene::Prefetch => first.driver = UserDriver::Prefetch,
         Scene::Continue => {
             first.result_success = UserRule::ContinueOk;
-            first
-                .default_fields
-                .set(text(alloc, b"gid")?, text(alloc, b"100")?)?;
-            first
-                .override_fields
-                .set(text(alloc, b"home")?, text(alloc, b"/home/%n")?)?;
+            first.default_fields.set(
+                Text::from_slice(alloc, b"gid")?,
+                Text::from_slice(alloc, b"100")?,
+            )?;
+            first.override_fields.set(
+                Text::from_slice(alloc, b"home")?,
+                Text::from_slice(alloc, b"/home/%n")?,
+            )?;
             second.skip = UserSkip::Found;
         }
         Scene::ReturnFail => first.result_internalfail = UserRule::ReturnFail,
@@ -70,10 +64,10 @@ fn databases(alloc: Global, scene: Scene) -> Result<Vec<Userdb>, AllocError> {
 
 fn variables(alloc: Global) -> Result<Vars, AllocError> {
     Ok(Vars {
-        user: variable(alloc, b"alice@example.com")?,
-        service: variable(alloc, b"imap")?,
-        rip: variable(alloc, b"127.0.0.1")?,
-        lip: variable(alloc, b"127.0.0.1")?,
+        user: VarText::from_slice(alloc, b"alice@example.com")?,
+        service: VarText::from_slice(alloc, b"imap")?,
+        rip: VarText::from_slice(alloc, b"127.0.0.1")?,
+        lip: VarText::from_slice(alloc, b"127.0.0.1")?,
     })
 }
 
@@ -91,7 +85,10 @@ fn fields(alloc: Global, reported: &[u8]) -> Result<Fields, AllocError> {
     }
     for word in reported.split(|byte| *byte == b' ') {
         let (key, value) = key_and_value(word);
-        fields.set(text(alloc, key)?, text(alloc, value)?)?;
+        fields.set(
+            Text::from_slice(alloc, key)?,
+            Text::from_slice(alloc, value)?,
+        )?;
     }
     Ok(fields)
 }
@@ -104,11 +101,11 @@ fn answer(alloc: Global, reported: &[u8]) -> Result<Answer, AllocError> {
     let fields = fields(alloc, rest)?;
     Ok(match *letter {
         b'F' => Answer::Found {
-            stored: text(alloc, b"")?,
+            stored: Text::from_slice(alloc, b"")?,
             fields,
         },
         b'S' => Answer::Found {
-            stored: text(alloc, b"{PLAIN}pw")?,
+            stored: Text::from_slice(alloc, b"{PLAIN}pw")?,
             fields,
         },
         b'I' => Answer::Internal(Why::Said),
@@ -163,7 +160,7 @@ fn told_at_once(
     if !are_valid_userdbs(&dbs) {
         return Vec::from_slice(alloc, b"not valid");
     }
-    let user = text(alloc, b"alice@example.com")?;
+    let user = Text::from_slice(alloc, b"alice@example.com")?;
     let given = fields(alloc, given)?;
     let vars = variables(alloc)?;
     let answers = numbered(alloc, reported)?;
@@ -214,7 +211,7 @@ fn told_by_cursor(
     if !are_valid_userdbs(&dbs) {
         return Vec::from_slice(alloc, b"not valid");
     }
-    let user = text(alloc, b"alice@example.com")?;
+    let user = Text::from_slice(alloc, b"alice@example.com")?;
     let given = fields(alloc, given)?;
     let vars = variables(alloc)?;
     let answers = numbered(alloc, reported)?;

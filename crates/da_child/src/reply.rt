@@ -7,10 +7,8 @@ ghost use Rattle.da_child.specs.Child.{lacks};
 
 use da_fields::{Answer, Why};
 use da_query::read_fields;
+use da_tabline::LONGEST_LINE;
 use std::alloc::{AllocError, Global};
-
-// The most bytes of a line.
-const LONGEST_LINE: usize = 8192;
 
 /// What a status and a reply mean.
 pub(crate) fn meaning(alloc: Global, status: u32, reply: &[u8]) -> Result<Answer, AllocError>

@@ -18,7 +18,7 @@ const TABLES_MAX: usize = 16;
 fn text_of(alloc: Global, text: &str) -> Result<Text, AllocError>
     ensures { IfOk result (λ copy. copy ≡ text.now) }
 {
-    Ok(Text::new(Vec::from_slice(alloc, text.as_bytes())?))
+    Text::from_slice(alloc, text.as_bytes())
 }
 
 // The texts of the items, where each is one.

@@ -35,8 +35,8 @@ fn has(fields: &Fields, key: &[u8]) -> bool
 fn put(alloc: Global, fields: &mut Fields, key: &[u8], value: &[u8]) -> Result<(), AllocError>
     ensures { OnOk result (fields.new ≡ with_field key.now value.now fields.old) }
 {
-    let key = Text::new(Vec::from_slice(alloc, key)?);
-    let value = Text::new(Vec::from_slice(alloc, value)?);
+    let key = Text::from_slice(alloc, key)?;
+    let value = Text::from_slice(alloc, value)?;
     fields.set(key, value)
 }
 

@@ -18,7 +18,7 @@ const KEY: &str = "mechanisms";
 fn default(alloc: Global) -> Result<Texts, AllocError>
     ensures { IfOk result (λ names. names ≡ codes "PLAIN" ∷ []) }
 {
-    let name = Text::new(Vec::from_slice(alloc, b"PLAIN")?);
+    let name = Text::from_slice(alloc, b"PLAIN")?;
     Ok(Texts::new(vec![in alloc; name]?))
 }
 

@@ -1,9 +1,9 @@
 // The challenge of CRAM-MD5.
 
 ghost use Rattle.std.specs.Prelude.{◌≡◌, IfOk};
-ghost use Rattle.da_base.specs.Words.{hex};
 ghost use Rattle.da_cram.specs.Cram.{cram_challenge};
 
+use da_tabline::hex_digits;
 use std::alloc::{AllocError, Global};
 
 /// The challenge of a server (RFC 2195, section 2): in angle brackets random bytes in lower-case hexadecimal digits, the
@@ -24,11 +24,4 @@ pub fn challenge(
     text.extend_from_slice(host)?;
     text.extend_from_slice(b">")?;
     Ok(text)
-}
-
-/// Two lower-case hexadecimal digits for each byte.
-pub fn hex_digits(alloc: Global, bytes: &[u8]) -> Result<Vec<u8>, AllocError>
-    ensures { IfOk result (λ text. text.items ≡ hex bytes.now) }
-{
-    Ok(hex::encode(alloc, bytes)?.into_bytes())
 }

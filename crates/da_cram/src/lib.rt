@@ -6,6 +6,6 @@ mod challenges;
 mod laws;
 mod response;
 
-pub use challenges::{challenge, hex_digits};
+pub use challenges::challenge;
 pub use laws::{cram_says_one_thing, the_example_of_rfc_2195_is_right};
 pub use response::says;

@@ -6,9 +6,9 @@ ghost use Rattle.da_fields.specs.declared.said.Said.TheVariants.{Need};
 ghost use Rattle.da_schemes.specs.Stored.{plaintext_of};
 ghost use Rattle.da_cram.specs.Cram.{CramSays, cram_says, messages_say, credentials_say, message_says, is_response, right_digits, is_lower_hex};
 
-use crate::challenges::hex_digits;
 use da_fields::{Said, Text};
 use da_schemes::{Stored, hmac_md5, same_bytes};
+use da_tabline::hex_digits;
 use std::alloc::{AllocError, Global};
 
 // How many hexadecimal digits a digest has.
@@ -68,7 +68,7 @@ fn said_under(
     ensures { IfOk result (λ said. said ≡ messages_say challenge.now messages.now (option_copied plain.entry)) }
 {
     match messages {
-        [] => Ok(Said::Challenge(Text::new(Vec::from_slice(alloc, challenge)?))),
+        [] => Ok(Said::Challenge(Text::from_slice(alloc, challenge)?)),
         [message] => said_to_message(alloc, message.bytes(), challenge, plain),
         _ => Ok(Said::Bad),
     }
@@ -99,7 +99,7 @@ fn need(alloc: Global, name: &[u8]) -> Result<Said, AllocError>
     ensures { IfOk result (λ said. said ≡ Need name.now [] None) }
 {
     Ok(Said::Need {
-        user: Text::new(Vec::from_slice(alloc, name)?),
+        user: Text::from_slice(alloc, name)?,
         authzid: Text::new(Vec::new(alloc)),
         password: None,
     })

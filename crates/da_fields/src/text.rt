@@ -27,6 +27,13 @@ impl Text {
         Text { bytes }
     }
 
+    /// The text of a copy of these bytes.
+    pub fn from_slice(alloc: Global, bytes: &[u8]) -> Result<Text, AllocError>
+        ensures { IfOk result (λ text. text ≡ bytes.now) }
+    {
+        Ok(Text::new(Vec::from_slice(alloc, bytes)?))
+    }
+
     /// The bytes of the text.
     pub fn bytes(&self) -> &[u8]
         ensures { result.now ≡ self.now }
@@ -38,8 +45,6 @@ impl Text {
     pub fn copy(&self, alloc: Global) -> Result<Text, AllocError>
         ensures { IfOk result (λ text. text ≡ self.now) }
     {
-        Ok(Text {
-            bytes: Vec::from_slice(alloc, &self.bytes)?,
-        })
+        Text::from_slice(alloc, &self.bytes)
     }
 }

@@ -1,7 +1,7 @@
 // The lines that open a connection.
 
 ghost use Rattle.std.specs.Prelude.{◌≡◌, ◌<◌, ◌++◌, ◌∷◌, [], IfOk, OnOk, map, codes, decimal};
-ghost use Rattle.da_base.specs.Words.{hex, hex_digit};
+ghost use Rattle.da_base.specs.Words.{hex};
 ghost use Rattle.da_tabline.specs.Escapes.{spelled};
 ghost use Rattle.da_tabline.specs.Spelling.{more_fields};
 ghost use Rattle.da_msgs.specs.Replies.{greeting};
@@ -10,7 +10,7 @@ ghost use Rattle.da_msgs.specs.Replies.{version_line, server_line, mechanism_lin
 use crate::kinds::{ConnKind, Mech};
 use crate::printing::begin_reply;
 use da_fields::Text;
-use da_tabline::{escape, push_field};
+use da_tabline::{escape, hex_digits, push_field};
 use std::alloc::{AllocError, Global};
 
 /// The lines that open a connection of this kind and number, each without its LF: to a client the version, the
@@ -27,8 +27,7 @@ pub fn handshake(
 ) -> Result<Vec<Text>, AllocError>
     ensures { IfOk result (λ lines. lines.items ≡ greeting kind mechs.now pid number (hex cookie.now)) }
 {
-    let digits = hex_text(alloc, cookie)?;
-    greeting(alloc, kind, mechs, pid, number, &digits)
+    greeting(alloc, kind, mechs, pid, number, &hex_digits(alloc, cookie)?)
 }
 
 /// The lines that open a connection whose cookie has these hexadecimal digits.
@@ -123,23 +122,4 @@ fn cookie_line(alloc: Global, digits: &[u8]) -> Result<Text, AllocError>
     let mut line = escape(alloc, b"COOKIE")?;
     push_field(&mut line, digits)?;
     Ok(Text::new(line))
-}
-
-// Two lower-case hexadecimal digits for each byte.
-fn hex_text(alloc: Global, bytes: &[u8]) -> Result<Vec<u8>, AllocError>
-    ensures { IfOk result (λ text. text.items ≡ hex bytes.now) }
-{
-    let mut text = Vec::new(alloc);
-    for byte in bytes {
-        text.push(digit_of(*byte / 16))?;
-        text.push(digit_of(*byte % 16))?;
-    }
-    Ok(text)
-}
-
-fn digit_of(n: u8) -> u8
-    requires { n < 16 }
-    ensures { result ≡ hex_digit n }
-{
-    if n <= 9 { b'0' + n } else { b'a' - 10 + n }
 }

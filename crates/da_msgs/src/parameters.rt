@@ -24,20 +24,17 @@ pub(crate) fn parameters_of(
     let mut params = Fields::new(alloc);
     for field in fields {
         if let Some(text) = strip_front(field.bytes(), b"resp=") {
-            let resp = Some(text_of(alloc, text)?);
+            let resp = Some(Text::from_slice(alloc, text)?);
             return Ok(Some(Parameters { params, resp }));
         }
         let (key, value) = key_and_value(field.bytes());
         if key.is_empty() {
             return Ok(None);
         }
-        params.set(text_of(alloc, key)?, text_of(alloc, value)?)?;
+        params.set(
+            Text::from_slice(alloc, key)?,
+            Text::from_slice(alloc, value)?,
+        )?;
     }
     Ok(Some(Parameters { params, resp: None }))
-}
-
-fn text_of(alloc: Global, bytes: &[u8]) -> Result<Text, AllocError>
-    ensures { IfOk result (λ text. text ≡ bytes.now) }
-{
-    Ok(Text::new(Vec::from_slice(alloc, bytes)?))
 }

@@ -7,11 +7,8 @@ ghost use Rattle.da_msgs.specs.Lines.{fits_a_line};
 ghost use Rattle.da_msgs.specs.ClientMessages.{version_of, one_number};
 
 use da_fields::Text;
-use da_tabline::{decimal_u32, unescaped_fields};
+use da_tabline::{LONGEST_LINE, decimal_u32, unescaped_fields};
 use std::alloc::{AllocError, Global};
-
-// The most bytes of a line, without its LF.
-const LONGEST_LINE: usize = 8192;
 
 pub(crate) fn fits_a_line(line: &[u8]) -> bool
     ensures { result ≡ fits_a_line line.now }

@@ -27,6 +27,13 @@ impl VarText {
         VarText { bytes }
     }
 
+    /// The value of a copy of these bytes.
+    pub fn from_slice(alloc: Global, bytes: &[u8]) -> Result<VarText, AllocError>
+        ensures { IfOk result (λ made. made ≡ bytes.now) }
+    {
+        Ok(VarText::new(Vec::from_slice(alloc, bytes)?))
+    }
+
     /// The bytes of the value.
     pub fn bytes(&self) -> &[u8]
         ensures { result.now ≡ self.now }
@@ -38,9 +45,7 @@ impl VarText {
     pub fn copy(&self, alloc: Global) -> Result<VarText, AllocError>
         ensures { IfOk result (λ made. made ≡ self.now) }
     {
-        Ok(VarText {
-            bytes: Vec::from_slice(alloc, &self.bytes)?,
-        })
+        VarText::from_slice(alloc, &self.bytes)
     }
 }
 

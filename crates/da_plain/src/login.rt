@@ -54,5 +54,5 @@ fn said_to_both(alloc: Global, name: &Text, password: &Text) -> Result<Said, All
 fn challenge(alloc: Global, text: &[u8]) -> Result<Said, AllocError>
     ensures { IfOk result (λ said. said ≡ Challenge text.now) }
 {
-    Ok(Said::Challenge(Text::new(Vec::from_slice(alloc, text)?)))
+    Ok(Said::Challenge(Text::from_slice(alloc, text)?))
 }

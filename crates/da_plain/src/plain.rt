@@ -51,9 +51,9 @@ fn said_to_parts(
         return Ok(Said::Bad);
     }
     Ok(Said::Need {
-        user: Text::new(Vec::from_slice(alloc, name)?),
-        authzid: Text::new(Vec::from_slice(alloc, authzid)?),
-        password: Some(Text::new(Vec::from_slice(alloc, password)?)),
+        user: Text::from_slice(alloc, name)?,
+        authzid: Text::from_slice(alloc, authzid)?,
+        password: Some(Text::from_slice(alloc, password)?),
     })
 }
 

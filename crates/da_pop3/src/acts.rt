@@ -6,16 +6,10 @@ use crate::event::Act;
 use da_fields::Text;
 use std::alloc::{AllocError, Global};
 
-pub(crate) fn text_of(alloc: Global, bytes: &[u8]) -> Result<Text, AllocError>
-    ensures { IfOk result (λ text. text ≡ bytes.now) }
-{
-    Ok(Text::new(Vec::from_slice(alloc, bytes)?))
-}
-
 pub(crate) fn say(alloc: Global, text: &[u8]) -> Result<Act, AllocError>
     ensures { IfOk result (λ act. act ≡ Act.Say text.now) }
 {
-    Ok(Act::Say(text_of(alloc, text)?))
+    Ok(Act::Say(Text::from_slice(alloc, text)?))
 }
 
 pub(crate) fn one(alloc: Global, act: Act) -> Result<Vec<Act>, AllocError>

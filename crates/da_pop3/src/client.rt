@@ -4,7 +4,7 @@ ghost use Rattle.std.specs.Prelude.{◌≡◌, IfOk};
 ghost use Rattle.da_pop3.specs.Giving.{Gives};
 ghost use Rattle.da_pop3.specs.Table.{unknown, quitted, capabilities, named, password_turn, auth_turn, auth_turn_with, auth_command, bare_command, command_with, command_turn};
 
-use crate::acts::{one, said, said_at_the_end, say, text_of};
+use crate::acts::{one, said, said_at_the_end, say};
 use crate::commands::{capitals, first_message, is_argument, is_first_message, is_mechanism};
 use crate::event::Act;
 use crate::own_lines::{auth_line, auth_line_with, plain_text, sasl_text};
@@ -83,7 +83,7 @@ impl Pop3 {
         ensures { Gives (named self.old name.now) self.old result self.new }
     {
         let acts = said(self.alloc, b"+OK")?;
-        let name = text_of(self.alloc, name)?;
+        let name = Text::from_slice(self.alloc, name)?;
         self.name = Some(name);
         Ok(acts)
     }

@@ -13,10 +13,8 @@ use crate::place::{AuthPlace, ClientPlace, MasterPlace, Place};
 use crate::pop3::Pop3;
 use crate::service::Failure;
 use da_fields::Text;
+use da_tabline::LONGEST_LINE;
 use std::alloc::{AllocError, Global};
-
-// The most bytes of a line to the auth service, without its LF.
-const LONGEST_LINE: usize = 8192;
 
 // How many failures a session may have and go on.
 const MOST_FAILURES: u32 = 2;

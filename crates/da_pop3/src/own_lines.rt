@@ -9,7 +9,6 @@ ghost use Rattle.da_msgs.specs.Replies.{version_line};
 ghost use Rattle.da_pop3.specs.OwnLines.{pid_line, auth_line, auth_line_with, cont_line, cancel_line, request_line, plain_message};
 ghost use Rattle.da_pop3.specs.Table.{sasl_text};
 
-use crate::acts::text_of;
 use base64::engine::general_purpose::STANDARD;
 use da_fields::Text;
 use da_tabline::{escape, push_field};
@@ -34,7 +33,7 @@ fn push_number(line: &mut Vec<u8>, alloc: Global, number: u32) -> Result<(), All
 pub(crate) fn version_line(alloc: Global) -> Result<Text, AllocError>
     ensures { IfOk result (λ line. line ≡ version_line) }
 {
-    text_of(alloc, b"VERSION\t1\t1")
+    Text::from_slice(alloc, b"VERSION\t1\t1")
 }
 
 pub(crate) fn pid_line(alloc: Global, pid: u32) -> Result<Text, AllocError>

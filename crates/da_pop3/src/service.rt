@@ -6,7 +6,6 @@ ghost use Rattle.da_fields.specs.FieldList.{field};
 ghost use Rattle.da_tabline.specs.Escapes.{line_fields};
 ghost use Rattle.da_pop3.specs.ServiceLines.{is_version, is_server, is_cookie_digit, is_cookie, cookie_of, mechanism_of, done_of, opening_of, pairs_of, failure_in, challenge_of, success_of, refusal_of, reply_of, found_of, missing_of, lookup_of};
 
-use crate::acts::text_of;
 use da_fields::{Fields, Text};
 use da_tabline::{decimal_u32, key_and_value, unescaped_fields};
 use std::alloc::{AllocError, Global};
@@ -160,7 +159,10 @@ fn pairs_of(alloc: Global, texts: &[Text]) -> Result<Fields, AllocError>
     let mut pairs = Fields::new(alloc);
     for text in texts {
         let (key, value) = key_and_value(text.bytes());
-        pairs.set(text_of(alloc, key)?, text_of(alloc, value)?)?;
+        pairs.set(
+            Text::from_slice(alloc, key)?,
+            Text::from_slice(alloc, value)?,
+        )?;
     }
     Ok(pairs)
 }
@@ -180,7 +182,7 @@ fn last_in(alloc: Global, pairs: &Fields) -> Result<Option<Text>, AllocError>
     ensures { IfOk result (λ last. last ≡ field (codes "resp") pairs.now) }
 {
     match pairs.get(b"resp") {
-        Some(text) => Ok(Some(text_of(alloc, text)?)),
+        Some(text) => Ok(Some(Text::from_slice(alloc, text)?)),
         None => Ok(None),
     }
 }

@@ -233,11 +233,8 @@ fn new_field(
     if fields.get(key).is_some() {
         return Ok(None);
     }
-    Ok(Some((text_of(alloc, key)?, text_of(alloc, value)?)))
-}
-
-fn text_of(alloc: Global, bytes: &[u8]) -> Result<Text, AllocError>
-    ensures { IfOk result (λ text. text ≡ bytes.now) }
-{
-    Ok(Text::new(Vec::from_slice(alloc, bytes)?))
+    Ok(Some((
+        Text::from_slice(alloc, key)?,
+        Text::from_slice(alloc, value)?,
+    )))
 }

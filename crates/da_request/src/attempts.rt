@@ -126,7 +126,7 @@ fn after_proof(alloc: Global, verdict: Verdict, said: Said) -> Result<Stage, All
         Said::Proof { right: true, last } => Ok(success(verdict, last)),
         Said::Proof { right: false, .. } => plain_failure(alloc, verdict, None),
         Said::Need { .. } | Said::Bad => {
-            let reason = Text::new(Vec::from_slice(alloc, b"Invalid response")?);
+            let reason = Text::from_slice(alloc, b"Invalid response")?;
             plain_failure(alloc, verdict, Some(reason))
         }
     }
@@ -168,7 +168,7 @@ fn told_reason(alloc: Global, fields: &Fields) -> Result<Option<Text>, AllocErro
     ensures { IfOk result (λ reason. reason ≡ field (codes "reason") fields.now) }
 {
     match fields.get(b"reason") {
-        Some(reason) => Ok(Some(Text::new(Vec::from_slice(alloc, reason)?))),
+        Some(reason) => Ok(Some(Text::from_slice(alloc, reason)?)),
         None => Ok(None),
     }
 }

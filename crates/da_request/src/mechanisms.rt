@@ -8,13 +8,14 @@ ghost use Rattle.da_scram.specs.Reading.{scram_says};
 ghost use Rattle.da_scram.specs.Scram.{request_salt};
 
 use crate::attempts::Attempt;
-use da_cram::{challenge, hex_digits};
+use da_cram::challenge;
 use da_fields::{Said, Text};
 use da_msgs::Mech;
 use da_plain::{login_says, plain_says};
 use da_schemes::Stored;
 use da_scram::request_salt;
 use da_settings::Settings;
+use da_tabline::hex_digits;
 use std::alloc::{AllocError, Global};
 
 /// What the mechanism says to the messages of an attempt, with these credentials or without.

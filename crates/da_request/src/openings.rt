@@ -102,7 +102,7 @@ fn immediate_failure(alloc: Global, reason: &[u8]) -> Result<Opening, AllocError
         authz: false,
         temp: false,
         disabled: false,
-        reason: Some(Text::new(Vec::from_slice(alloc, reason)?)),
+        reason: Some(Text::from_slice(alloc, reason)?),
     })))
 }
 
@@ -124,7 +124,7 @@ pub fn vars_for(alloc: Global, user: &[u8], params: &Fields) -> Result<Vars, All
     ensures { IfOk result (λ vars. vars ≡ vars_for user.now params.now) }
 {
     Ok(Vars {
-        user: VarText::new(Vec::from_slice(alloc, user)?),
+        user: VarText::from_slice(alloc, user)?,
         service: parameter(alloc, params, b"service")?,
         rip: parameter(alloc, params, b"rip")?,
         lip: parameter(alloc, params, b"lip")?,
@@ -136,7 +136,7 @@ fn parameter(alloc: Global, params: &Fields, key: &[u8]) -> Result<VarText, Allo
     ensures { IfOk result (λ value. value ≡ option_or_else (field key.now params.now) [] (λ x. x)) }
 {
     match params.get(key) {
-        Some(value) => Ok(VarText::new(Vec::from_slice(alloc, value)?)),
+        Some(value) => VarText::from_slice(alloc, value),
         None => Ok(VarText::new(Vec::new(alloc))),
     }
 }

@@ -9,13 +9,8 @@ use da_fields::Text;
 use da_msgs::ConnKind;
 use da_play::Input;
 use da_query::read_script_answer;
-use da_tabline::{decimal_number, decimal_u32, split_at_byte};
+use da_tabline::{LONGEST_LINE, LONGEST_SCRIPT_LINE, decimal_number, decimal_u32, split_at_byte};
 use std::alloc::{AllocError, Global};
-
-// The most bytes of a script's line, and of a connection's.
-const LONGEST_EVENT: usize = 16384;
-
-const LONGEST_TEXT: usize = 8192;
 
 /// The event that a line of a script spells: its moment in milliseconds, and what happens. `None` exactly where it spells
 /// none, as where it has more than 16,384 bytes or an LF.
@@ -35,7 +30,7 @@ pub fn read_event(alloc: Global, line: &[u8]) -> Result<Option<(u64, Input)>, Al
 fn fits_a_script(line: &[u8]) -> bool
     ensures { result ≡ fits_a_script line.now }
 {
-    line.len() <= LONGEST_EVENT && !line.contains(&b'\n')
+    line.len() <= LONGEST_SCRIPT_LINE && !line.contains(&b'\n')
 }
 
 fn event_after(
@@ -148,12 +143,12 @@ fn line_with(
     let Some(random) = random else {
         return Ok(None);
     };
-    if text.len() > LONGEST_TEXT {
+    if text.len() > LONGEST_LINE {
         return Ok(None);
     }
     Ok(Some(Input::Line {
         conn,
-        text: Text::new(Vec::from_slice(alloc, text)?),
+        text: Text::from_slice(alloc, text)?,
         random,
     }))
 }

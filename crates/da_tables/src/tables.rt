@@ -14,11 +14,11 @@ use crate::keys::Keys;
 use crate::numbers::Numbers;
 use crate::queries::{Queries, QueryRow, take_row};
 use crate::requests::{Requests, cancel, decide_row, push_text, some_is_granted_for};
-use da_cram::hex_digits;
 use da_fields::Text;
 use da_msgs::ConnKind;
 use da_request::{Request, row};
 use da_settings::Settings;
+use da_tabline::hex_digits;
 use std::alloc::{AllocError, Global};
 
 /// The tables at the end of a history.

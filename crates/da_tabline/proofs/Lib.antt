@@ -1,4 +1,5 @@
 pub mod EscapeLemmas
+pub mod HexDigits
 pub mod LineLemmas
 pub mod NumberLemmas
 pub mod PartLemmas

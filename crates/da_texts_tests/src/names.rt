@@ -72,7 +72,7 @@ fn filters_match_by_their_words(rt: HostRuntime) {
 }
 
 fn text(alloc: Global, text: &str) -> Result<VarText, AllocError> {
-    Ok(VarText::new(Vec::from_slice(alloc, text.as_bytes())?))
+    VarText::from_slice(alloc, text.as_bytes())
 }
 
 #[test]

@@ -77,7 +77,7 @@ fn said_to_token(alloc: Global, right: bool, more: &[Text]) -> Result<Said, Allo
 {
     match more {
         [] if right => Ok(Said::Proof { right, last: None }),
-        [] => Ok(Said::Challenge(Text::new(Vec::from_slice(alloc, ERROR_STATUS)?))),
+        [] => Ok(Said::Challenge(Text::from_slice(alloc, ERROR_STATUS)?)),
         [_] if !right => Ok(Said::Proof { right, last: None }),
         _ => Ok(Said::Bad),
     }

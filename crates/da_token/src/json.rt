@@ -53,7 +53,7 @@ pub(crate) fn json_in(alloc: Global, part: &[u8]) -> Result<Option<Value>, Alloc
 pub(crate) fn copied(alloc: Global, text: &str) -> Result<Text, AllocError>
     ensures { IfOk result (λ copy. copy ≡ text.now) }
 {
-    Ok(Text::new(Vec::from_slice(alloc, text.as_bytes())?))
+    Text::from_slice(alloc, text.as_bytes())
 }
 
 /// The text that a value is.

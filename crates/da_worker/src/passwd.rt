@@ -83,16 +83,13 @@ fn user_line<'a>(user: &[u8], file: &'a [u8]) -> Option<&'a [u8]>
     }
 }
 
-fn text_of(alloc: Global, bytes: &[u8]) -> Result<Text, AllocError>
-    ensures { IfOk result (λ text. text ≡ bytes.now) }
-{
-    Ok(Text::new(Vec::from_slice(alloc, bytes)?))
-}
-
 fn set(fields: &mut Fields, alloc: Global, key: &[u8], value: &[u8]) -> Result<(), AllocError>
     ensures { OnOk result (fields.new ≡ with_field key.now value.now fields.old) }
 {
-    fields.set(text_of(alloc, key)?, text_of(alloc, value)?)
+    fields.set(
+        Text::from_slice(alloc, key)?,
+        Text::from_slice(alloc, value)?,
+    )
 }
 
 ghost use Rattle.da_fields.specs.FieldList.{with_field};
@@ -165,11 +162,11 @@ fn answer_of_line(alloc: Global, kind: QueryKind, line: Option<&[u8]>) -> Result
     let columns = columns_of(line);
     match kind {
         QueryKind::Pass => Ok(Answer::Found {
-            stored: text_of(alloc, columns.password)?,
+            stored: Text::from_slice(alloc, columns.password)?,
             fields: extra_fields(alloc, columns.extra)?,
         }),
         QueryKind::User => Ok(Answer::Found {
-            stored: text_of(alloc, b"")?,
+            stored: Text::from_slice(alloc, b"")?,
             fields: user_fields(alloc, line)?,
         }),
         QueryKind::Check => Ok(Answer::Internal(Why::Said)),
