@@ -22,4 +22,6 @@ mod tests_of_mechanisms;
 #[cfg(test)]
 mod tests_of_the_cache;
 #[cfg(test)]
+mod tests_of_whole_paths;
+#[cfg(test)]
 mod worker;

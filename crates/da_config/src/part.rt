@@ -108,7 +108,7 @@ impl<'a> TomlTable<'a> {
         ensures { IsRead (of_kind (place (part_of self.now) key.now) (as_str (view value.now))) result }
     {
         match value.as_str() {
-            Some(text) => Text::from_slice(alloc, text.as_bytes()),
+            Some(text) => Ok(Text::from_slice(alloc, text.as_bytes())?),
             None => Err(self.fault(alloc, key, FaultKind::Kind)),
         }
     }
@@ -119,7 +119,7 @@ impl<'a> TomlTable<'a> {
     {
         match self.get(key) {
             Some(value) => self.text_in(alloc, key, value),
-            None => Text::from_slice(alloc, default),
+            None => Ok(Text::from_slice(alloc, default)?),
         }
     }
 

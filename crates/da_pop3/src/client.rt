@@ -10,6 +10,7 @@ use crate::event::Act;
 use crate::own_lines::{auth_line, auth_line_with, plain_text, sasl_text};
 use crate::place::Place;
 use crate::pop3::Pop3;
+use da_fields::Text;
 use da_tabline::split_at_byte;
 use std::alloc::AllocError;
 
