@@ -123,7 +123,7 @@ module _ (settings : Settings) (moment : ℕ) (before : Tables) (entered : Input
   input_distinct : InputParts settings moment before entered (λ tables m. AllDistinct tables.requests)
   input_distinct = record {
     opens = λ kind random l p. p;
-    tells = λ conn change h p. p;
+    tells = λ conn change h told p. p;
     ends = λ conn e p. end_distinct conn p;
     cancels = λ n e p. changed_distinct cancelled before.requests n (λ r is d. d) p;
     texts = λ conn id random text m r is w p. changed_distinct (with_text text) before.requests _ (λ s at d. d) p;

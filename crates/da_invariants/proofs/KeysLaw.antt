@@ -162,7 +162,7 @@ module _ (settings : Settings) (moment : ℕ) (before : Tables) (entered : Input
   input_cache : InputParts settings moment before entered (λ tables m. SameCache before tables)
   input_cache = record {
     opens = λ kind random l p. record { cacheable = refl; keys = refl };
-    tells = λ conn change h p. record { cacheable = refl; keys = refl };
+    tells = λ conn change h told p. record { cacheable = refl; keys = refl };
     ends = λ conn e p. end_cache conn;
     cancels = λ n e p. record { cacheable = refl; keys = refl };
     texts = λ conn id random text m r is w p. record { cacheable = refl; keys = refl };

@@ -272,7 +272,7 @@ module _ (settings : Settings) (moment : ℕ) (before : Tables) (entered : Input
   pub input_asked : InputParts settings moment before entered (λ tables m. AreAsked tables m)
   input_asked = record {
     opens = λ kind random l p. quiet _ p.all;
-    tells = λ conn change h p. quiet _ p.all;
+    tells = λ conn change h told p. quiet _ p.all;
     ends = λ conn e p. quiet _ (end_asked conn p.all);
     cancels = λ n e p. quiet _ (other_requests settings before.requests _ before.queries
         (changed_rows (AsksSame settings) (asks_same settings) (asks_same_later settings) cancelled before.requests n (λ r x. cancelled_asks settings r)) p.all);

@@ -252,7 +252,7 @@ module _ (settings : Settings) (moment : ℕ) (origin before : Tables) (entered 
   pub input_stands : InputParts settings moment before entered P
   input_stands = record {
     opens = λ kind random l p. with_connections origin before p _ (longer_rows ConnectionStands same_connection connection_later before.connections _);
-    tells = λ conn change h p. with_connections origin before p _ (changed_connections change (λ c. told_stands c (change c) (h c)) before.connections conn);
+    tells = λ conn change h told p. with_connections origin before p _ (changed_connections change (λ c. told_stands c (change c) (h c)) before.connections conn);
     ends = λ conn e p. end_stands conn p;
     cancels = λ n e p. with_requests origin before p _ (changed_requests cancelled before.requests n (λ r is. cancelled_stands r));
     texts = λ conn id random text m r is w p. with_requests origin before p _ (changed_requests (with_text text) before.requests _

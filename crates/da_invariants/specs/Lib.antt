@@ -1,3 +1,4 @@
 pub mod KeyLaws
+pub mod NameLaws
 pub mod QueryLaws
 pub mod StandingLaws

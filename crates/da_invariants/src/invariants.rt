@@ -1,6 +1,7 @@
 // What holds of the tables after each history: each law is a contract, and its function does nothing.
 
 ghost use Rattle.da_invariants.specs.KeyLaws.{KeysFit};
+ghost use Rattle.da_invariants.specs.NameLaws.{IdsAreDistinct, ProcessNumbersAreDistinct};
 ghost use Rattle.da_invariants.specs.QueryLaws.{OpenQueriesAreAsked, AnswersAreDistinct};
 ghost use Rattle.da_invariants.specs.StandingLaws.{WhatIsDoneStands, UsedStaysUsed, DecisionsStand};
 
@@ -32,4 +33,14 @@ pub fn keys_fit()
 /// In a legal history the answers of a request are those of distinct databases.
 pub fn answers_are_distinct()
     ensures { AnswersAreDistinct }
+{}
+
+/// No two open clients have one process number, so a master's lookup by it means one connection.
+pub fn process_numbers_are_distinct()
+    ensures { ProcessNumbersAreDistinct }
+{}
+
+/// No two requests of a connection have one id.
+pub fn ids_are_distinct()
+    ensures { IdsAreDistinct }
 {}

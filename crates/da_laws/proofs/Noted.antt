@@ -143,7 +143,7 @@ module _ (settings : Settings) where
     pub input_noted : InputParts settings moment before entered (λ tables m. AllNotedBut m tables.requests)
     input_noted = record {
       opens = λ kind random l p. p;
-      tells = λ conn change h p. p;
+      tells = λ conn change h told p. p;
       ends = λ conn e p. end_noted conn p;
       cancels = λ n e p. all_but_none _ (changed_noted cancelled before.requests n (λ r e. cancelled_noted r (p n r e (λ d. none-some n d))) (weaker_but n before.requests (all_of_none before.requests p)));
       texts = λ conn id random text m r is w p. changed_but (with_text text) before.requests _ (weaker_but _ before.requests (all_of_none before.requests p));

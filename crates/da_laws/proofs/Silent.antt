@@ -130,7 +130,7 @@ module _ (settings : Settings) (moment : ℕ) (before : Tables) (entered : Input
   pub input_open : InputParts settings moment before entered (λ tables m. AllOpen tables)
   input_open = record {
     opens = λ kind random l p. open_elsewhere _ (λ conn o. still_open before.connections _ conn (λ c e. (c, nth-before before.connections _ c conn e, λ x. x)) o) p;
-    tells = λ conn change h p. open_elsewhere _ (λ other o. still_open before.connections _ other (λ c e. reported conn other change h c e) o) p;
+    tells = λ conn change h told p. open_elsewhere _ (λ other o. still_open before.connections _ other (λ c e. reported conn other change h c e) o) p;
     ends = λ conn e p. end_open conn p;
     cancels = λ n e p. changed_open before.connections cancelled cancelled_keeps before.requests n p;
     texts = λ conn id random text m r is w p. changed_open before.connections (with_text text) (text_keeps text) before.requests _ p;
@@ -208,7 +208,7 @@ module _ (settings : Settings) (origin : Tables) (e : Entry) where
   input_unit : InputParts settings e.moment before e.input (λ tables m. Unit {0})
   input_unit = record {
     opens = λ kind random l p. tt;
-    tells = λ conn change h p. tt;
+    tells = λ conn change h told p. tt;
     ends = λ conn x p. tt;
     cancels = λ n x p. tt;
     texts = λ conn id random text m r is w p. tt;

@@ -1,6 +1,7 @@
 -- What each part of an entry gives, an entry gives: the parts on all tables, in their order, with the request that continues.
-use Rattle.std.proofs.Common.{◌≡◌, ◌⊎◌, inl, inr, refl, sym, ◌∙◌, ap, subst, Option, Some, None, List, [], ◌∷◌, ◌++◌, ℕ, suc, true, false, length, append_assoc, append-nil, option_map, option_and_then, true≢false}
-use Rattle.da_tables.proofs.Cases.{by_test, and_first}
+use Rattle.std.proofs.Common.{◌≡◌, ◌⊎◌, inl, inr, refl, sym, ◌∙◌, ap, subst, Option, Some, None, List, [], ◌∷◌, ◌++◌, ℕ, suc, true, false, length, append_assoc, append-nil, option_map, option_and_then, true≢false, not, ◌&&◌, is_some}
+use Rattle.da_tables.proofs.Cases.{by_test, and_first, and_second, not_true}
+use Rattle.std.specs.List.{list_any}
 use Rattle.da_play.proofs.EntryInduction.{IsUndecidedAt, ContinuedUndecided, still_undecided}
 use Rattle.da_tables.proofs.Rows.{passing, nth-last}
 use Rattle.da_base.specs.Words.{Bytes, hex, nth, passes_option, option_or_else}
@@ -16,7 +17,7 @@ use Rattle.da_msgs.specs.declared.client.ClientMsg.TheVariants.{Version, Pid, Au
 use Rattle.da_msgs.specs.declared.master.MasterMsg.{MasterMsg}
 use Rattle.da_msgs.specs.declared.master.MasterMsg.TheVariants.{Version as MasterVersion, Request as LookupRequest, Other as MasterOther}
 use Rattle.da_keys.specs.Keys.{with_key}
-use Rattle.da_tables.specs.Connections.{client_may, master_may, request_number}
+use Rattle.da_tables.specs.Connections.{client_may, has_pid, master_may, request_number}
 use Rattle.da_lines.specs.Grants.{granted}
 use Rattle.da_play.specs.History.{after, after_input, after_stage, after_continued, keeps, kept_for, follows_for, follows_from}
 use Rattle.da_request.specs.Requests.{with_decision}
@@ -102,6 +103,11 @@ pub record IsSameConnection (c d : Connection) : Type 0 where
   pub cookie : d.cookie ≡ c.cookie
   pub is_open : d.is_open ≡ c.is_open
 
+-- the connection keeps its process number, or tells one that no open client has
+abbrev pub TellsPid : Tables → (Connection → Connection) → Type 0
+TellsPid before change =
+    ((c : Connection) → (change c).pid ≡ c.pid) ⊎ ((pid : ℕ) × ((c : Connection) → (change c).pid ≡ Some pid) × (list_any (has_pid pid) before.connections ≡ false))
+
 abbrev opened : ConnKind → Bytes → Tables → Tables
 opened kind random tables = record tables { connections = tables.connections ++ record { kind = kind; cookie = hex random; has_version = false; pid = None; is_open = true } ∷ [] }
 
@@ -121,7 +127,8 @@ answer_in o = option_and_then (λ (a : QueryRow). option_map (λ (p : Answer × 
 -- the input's own effect gives P, a fact on the tables and the request that continues
 pub record InputParts (settings : Settings) (moment : ℕ) (before : Tables) (entered : Input) (P : Tables → Option ℕ → Type 0) : Type 0 where
   pub opens : (kind : ConnKind) (random : Bytes) → entered ≡ Opened kind random → P before None → P (opened kind random before) None
-  pub tells : (conn : ℕ) (change : Connection → Connection) → ((c : Connection) → IsSameConnection c (change c)) → P before None → P (with_connection change conn before) None
+  pub tells : (conn : ℕ) (change : Connection → Connection) → ((c : Connection) → IsSameConnection c (change c)) → TellsPid before change → P before None →
+      P (with_connection change conn before) None
   pub ends : (conn : ℕ) → Ends before entered conn → P before None → P (with_end conn before) None
   pub cancels : (n : ℕ) → passes_option (is_cancellable settings before n) (nth before.requests n) ≡ true → P before None → P (with_request cancelled n before) None
   pub texts : (conn id : ℕ) (random text : Bytes) → ReadsClient before entered conn random (Cont id text) →
@@ -192,8 +199,14 @@ module _ (settings : Settings) (moment : ℕ) (before : Tables) (entered : Input
 
   sound_client_message : (conn : ℕ) (random : Bytes) (message : ClientMsg) → ReadsClient before entered conn random message → P before None →
       IsSound (after_client_message settings moment conn random message before)
-  sound_client_message conn random (Version major minor) m p = quiet _ (k.tells conn with_version (λ c. record { kind = refl; cookie = refl; is_open = refl }) p)
-  sound_client_message conn random (Pid pid) m p = quiet _ (k.tells conn (with_pid pid) (λ c. record { kind = refl; cookie = refl; is_open = refl }) p)
+  sound_client_message conn random (Version major minor) m p = quiet _ (k.tells conn with_version (λ c. record { kind = refl; cookie = refl; is_open = refl }) (inl (λ c. refl)) p)
+  sound_client_message conn random (Pid pid) m p = quiet _ (k.tells conn (with_pid pid) (λ c. record { kind = refl; cookie = refl; is_open = refl })
+      (inr (
+        pid,
+        (λ c. refl),
+        not_true (list_any (has_pid pid) before.connections)
+            (and_second (m.connection.has_version && not (is_some m.connection.pid)) (not (list_any (has_pid pid) before.connections)) m.may),
+      )) p)
   sound_client_message conn random (Auth id mech params resp) m p =
       sound_new conn id random (Authenticates mech params resp [])
       (record { connection = m.connection; is_there = m.is_there; is_connected = m.is_connected; made = inl (mech, params, resp, m, refl) }) p
@@ -203,7 +216,7 @@ module _ (settings : Settings) (moment : ℕ) (before : Tables) (entered : Input
 
   sound_master_message : (conn : ℕ) (random : Bytes) (message : MasterMsg) → ReadsMaster before entered conn random message → P before None →
       IsSound (after_master_message settings moment conn random message before)
-  sound_master_message conn random (MasterVersion major minor) m p = quiet _ (k.tells conn with_version (λ c. record { kind = refl; cookie = refl; is_open = refl }) p)
+  sound_master_message conn random (MasterVersion major minor) m p = quiet _ (k.tells conn with_version (λ c. record { kind = refl; cookie = refl; is_open = refl }) (inl (λ c. refl)) p)
   sound_master_message conn random (LookupRequest id pid client cookie) m p =
       sound_new conn id random (LooksUp (granted settings moment before pid client cookie))
       (record { connection = m.connection; is_there = m.is_there; is_connected = m.is_connected; made = inr (pid, client, cookie, m, refl) }) p

@@ -46,7 +46,7 @@ module _ (settings : Settings) (e : Entry) (origin : Tables) where
   input_unkept : InputParts settings e.moment before e.input (λ tables m. Unkept tables)
   input_unkept = record {
     opens = λ kind random l p. record { cacheable = p.cacheable; tables = stand.opens kind random l p.tables };
-    tells = λ conn change k p. record { cacheable = p.cacheable; tables = stand.tells conn change k p.tables };
+    tells = λ conn change k told p. record { cacheable = p.cacheable; tables = stand.tells conn change k told p.tables };
     ends = λ conn x p. record { cacheable = end_same conn; tables = stand.ends conn x p.tables };
     cancels = λ n x p. record { cacheable = p.cacheable; tables = stand.cancels n x p.tables };
     texts = λ conn id random text m r is w p. record { cacheable = p.cacheable; tables = stand.texts conn id random text m r is w p.tables };

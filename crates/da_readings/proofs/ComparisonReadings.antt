@@ -133,7 +133,7 @@ module _ (settings : Settings) (e : Entry) (origin : Tables) where
   input_tested : InputParts settings e.moment before e.input (λ tables m. Tested tables)
   input_tested = record {
     opens = λ kind random l p. p;
-    tells = λ conn change x p. p;
+    tells = λ conn change x told p. p;
     ends = λ conn x p. end_tested conn;
     cancels = λ n x p. p;
     texts = λ conn id random text m r is w p. p;

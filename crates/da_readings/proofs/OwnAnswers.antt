@@ -163,7 +163,7 @@ module _ (settings : Settings) (e : Entry) (origin : Tables) where
     input_grew : InputParts settings e.moment before e.input (λ tables m. Grew tables)
     input_grew = record {
       opens = λ kind random l p. p;
-      tells = λ conn change k p. p;
+      tells = λ conn change k told p. p;
       ends = λ conn x p. end_grew conn;
       cancels = λ n x p. same_grew _ (changed_listed answers_of cancelled (λ r. refl) before.requests n);
       texts = λ conn id random text m r is w p. same_grew _ (changed_listed answers_of (with_text text) (λ r. refl) before.requests _);

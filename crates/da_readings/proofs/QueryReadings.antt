@@ -115,7 +115,7 @@ module _ (settings : Settings) (e : Entry) (origin : Tables) where
   input_came : InputParts settings e.moment before e.input (λ tables m. BothCame tables.queries)
   input_came = record {
     opens = λ kind random l p. p;
-    tells = λ conn change h p. p;
+    tells = λ conn change h told p. p;
     ends = λ conn x p. end_came conn p;
     cancels = λ n x p. p;
     texts = λ conn id random text m r is w p. p;

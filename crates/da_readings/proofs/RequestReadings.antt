@@ -111,7 +111,7 @@ module _ (settings : Settings) (e : Entry) (origin : Tables) where
   input_came : InputParts settings e.moment before e.input (λ tables m. CameNow tables)
   input_came = record {
     opens = λ kind random l p. record { tables = stand.opens kind random l p.tables; came = p.came };
-    tells = λ conn change h p. record { tables = stand.tells conn change h p.tables; came = p.came };
+    tells = λ conn change h told p. record { tables = stand.tells conn change h told p.tables; came = p.came };
     ends = λ conn x p. record { tables = stand.ends conn x p.tables; came = end_came conn p.came };
     cancels = λ n x p. record { tables = stand.cancels n x p.tables; came = both_changed cancelled (λ r. record { decided = refl; replied = refl }) before.requests n p.came };
     texts = λ conn id random text m r is w p. record { tables = stand.texts conn id random text m r is w p.tables; came = both_changed (with_text text) (λ r. record { decided = refl; replied = refl }) before.requests _ p.came };

@@ -146,7 +146,7 @@ module _ (settings : Settings) (e : Entry) (origin : Tables) where
   input_texts : InputParts settings e.moment before e.input (λ tables m. texts_now tables m [])
   input_texts = record {
     opens = λ kind random l p. p;
-    tells = λ conn change h p. p;
+    tells = λ conn change h told p. p;
     ends = λ conn x p. end_texts conn;
     cancels = λ n x p. still (changed_nth cancelled before.requests n) (changed_listed texts_of cancelled (λ r. refl) before.requests n);
     texts = λ conn id random text m r is w p. added _ text r is (awaiting_login r w) (ap continued_text (of_client conn random (Cont id text) m));
