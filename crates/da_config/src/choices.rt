@@ -1,26 +1,40 @@
 // The words that name a choice.
 ghost use Rattle.std.specs.Prelude.{◌≡◌};
-ghost use Rattle.da_config.specs.Choices.{driver_called, mechanism_called, rule_called, skip_called, user_driver_called, user_skip_called};
+ghost use Rattle.da_config.specs.Choices.{driver_called, driver_word, mechanism_called, rule_called, rule_word, skip_called, skip_word, user_driver_called, user_driver_word, user_skip_called, user_skip_word};
 
 use da_fields::Rule;
 use da_msgs::Mech;
 use da_passdb::{Driver, Skip};
 use da_userdb::{UserDriver, UserSkip};
 
-/// The mechanism of this name.
+const MECHANISMS: [Mech; 4] = [Mech::Plain, Mech::Login, Mech::CramMd5, Mech::ScramSha256];
+
+/// The mechanism of this name, in capitals.
 pub fn mechanism_called(text: &[u8]) -> Option<Mech>
     ensures { result ≡ mechanism_called text.now }
 {
-    if text == b"PLAIN".as_slice() {
-        Some(Mech::Plain)
-    } else if text == b"LOGIN".as_slice() {
-        Some(Mech::Login)
-    } else if text == b"CRAM-MD5".as_slice() {
-        Some(Mech::CramMd5)
-    } else if text == b"SCRAM-SHA-256".as_slice() {
-        Some(Mech::ScramSha256)
-    } else {
-        None
+    MECHANISMS.iter().copied().find(|mech| text == mech.name())
+}
+
+const RULES: [Rule; 6] = [
+    Rule::ReturnOk,
+    Rule::ReturnFail,
+    Rule::Return,
+    Rule::ContinueOk,
+    Rule::ContinueFail,
+    Rule::Continue,
+];
+
+fn rule_word(rule: Rule) -> &'static [u8]
+    ensures { result.now ≡ rule_word rule }
+{
+    match rule {
+        Rule::ReturnOk => b"return-ok",
+        Rule::ReturnFail => b"return-fail",
+        Rule::Return => b"return",
+        Rule::ContinueOk => b"continue-ok",
+        Rule::ContinueFail => b"continue-fail",
+        Rule::Continue => b"continue",
     }
 }
 
@@ -28,79 +42,94 @@ pub fn mechanism_called(text: &[u8]) -> Option<Mech>
 pub fn rule_called(text: &[u8]) -> Option<Rule>
     ensures { result ≡ rule_called text.now }
 {
-    if text == b"return-ok".as_slice() {
-        Some(Rule::ReturnOk)
-    } else if text == b"return-fail".as_slice() {
-        Some(Rule::ReturnFail)
-    } else if text == b"return".as_slice() {
-        Some(Rule::Return)
-    } else if text == b"continue-ok".as_slice() {
-        Some(Rule::ContinueOk)
-    } else if text == b"continue-fail".as_slice() {
-        Some(Rule::ContinueFail)
-    } else if text == b"continue".as_slice() {
-        Some(Rule::Continue)
-    } else {
-        None
+    RULES.iter().copied().find(|rule| text == rule_word(*rule))
+}
+
+const DRIVERS: [Driver; 3] = [Driver::PasswdFile, Driver::Worker, Driver::Checkpassword];
+
+fn driver_word(driver: Driver) -> &'static [u8]
+    ensures { result.now ≡ driver_word driver }
+{
+    match driver {
+        Driver::PasswdFile => b"passwd-file",
+        Driver::Worker => b"worker",
+        Driver::Checkpassword => b"checkpassword",
     }
 }
 
-/// The driver of a password database of this name.
+/// The driver of password databases of this name.
 pub fn driver_called(text: &[u8]) -> Option<Driver>
     ensures { result ≡ driver_called text.now }
 {
-    if text == b"passwd-file".as_slice() {
-        Some(Driver::PasswdFile)
-    } else if text == b"worker".as_slice() {
-        Some(Driver::Worker)
-    } else if text == b"checkpassword".as_slice() {
-        Some(Driver::Checkpassword)
-    } else {
-        None
+    DRIVERS
+        .iter()
+        .copied()
+        .find(|driver| text == driver_word(*driver))
+}
+
+const SKIPS: [Skip; 3] = [Skip::Never, Skip::Authenticated, Skip::Unauthenticated];
+
+fn skip_word(skip: Skip) -> &'static [u8]
+    ensures { result.now ≡ skip_word skip }
+{
+    match skip {
+        Skip::Never => b"never",
+        Skip::Authenticated => b"authenticated",
+        Skip::Unauthenticated => b"unauthenticated",
     }
 }
 
-/// When a password database is passed over.
+/// When a password database of this word is passed over.
 pub fn skip_called(text: &[u8]) -> Option<Skip>
     ensures { result ≡ skip_called text.now }
 {
-    if text == b"never".as_slice() {
-        Some(Skip::Never)
-    } else if text == b"authenticated".as_slice() {
-        Some(Skip::Authenticated)
-    } else if text == b"unauthenticated".as_slice() {
-        Some(Skip::Unauthenticated)
-    } else {
-        None
+    SKIPS.iter().copied().find(|skip| text == skip_word(*skip))
+}
+
+const USER_DRIVERS: [UserDriver; 3] = [
+    UserDriver::PasswdFile,
+    UserDriver::Worker,
+    UserDriver::Prefetch,
+];
+
+fn user_driver_word(driver: UserDriver) -> &'static [u8]
+    ensures { result.now ≡ user_driver_word driver }
+{
+    match driver {
+        UserDriver::PasswdFile => b"passwd-file",
+        UserDriver::Worker => b"worker",
+        UserDriver::Prefetch => b"prefetch",
     }
 }
 
-/// The driver of a user database of this name.
+/// The driver of user databases of this name.
 pub fn user_driver_called(text: &[u8]) -> Option<UserDriver>
     ensures { result ≡ user_driver_called text.now }
 {
-    if text == b"passwd-file".as_slice() {
-        Some(UserDriver::PasswdFile)
-    } else if text == b"worker".as_slice() {
-        Some(UserDriver::Worker)
-    } else if text == b"prefetch".as_slice() {
-        Some(UserDriver::Prefetch)
-    } else {
-        None
+    USER_DRIVERS
+        .iter()
+        .copied()
+        .find(|driver| text == user_driver_word(*driver))
+}
+
+const USER_SKIPS: [UserSkip; 3] = [UserSkip::Never, UserSkip::Found, UserSkip::NotFound];
+
+fn user_skip_word(skip: UserSkip) -> &'static [u8]
+    ensures { result.now ≡ user_skip_word skip }
+{
+    match skip {
+        UserSkip::Never => b"never",
+        UserSkip::Found => b"found",
+        UserSkip::NotFound => b"notfound",
     }
 }
 
-/// When a user database is passed over.
+/// When a user database of this word is passed over.
 pub fn user_skip_called(text: &[u8]) -> Option<UserSkip>
     ensures { result ≡ user_skip_called text.now }
 {
-    if text == b"never".as_slice() {
-        Some(UserSkip::Never)
-    } else if text == b"found".as_slice() {
-        Some(UserSkip::Found)
-    } else if text == b"notfound".as_slice() {
-        Some(UserSkip::NotFound)
-    } else {
-        None
-    }
+    USER_SKIPS
+        .iter()
+        .copied()
+        .find(|skip| text == user_skip_word(*skip))
 }
