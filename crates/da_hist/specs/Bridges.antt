@@ -1,6 +1,6 @@
 -- Bridges: what the server works with between its calls. Only the code cites them.
 use Rattle.std.specs.Prelude.{◌≡◌, ◌⊎◌, ℕ, List, Some, None, Result, Ok, Err}
-use Rattle.da_hist.specs.declared.plain.Entered.{Entered}
+use Rattle.da_entry.specs.declared.replayed.Entered.{Entered}
 use Rattle.da_play.specs.Legal.{entry_moment}
 use Rattle.da_play.specs.Play.{next_entry, outputs, refusal}
 use Rattle.da_play.specs.declared.input.Entry.{Entry}

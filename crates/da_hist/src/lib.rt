@@ -3,12 +3,8 @@
 //! the play of events.
 #![tactic(auto)]
 
-mod effects;
-mod history;
 mod plain;
-mod refusals;
 mod replay;
-mod sizes;
 
 pub use da_play::{Entry, Input, Outputs, Refused, Sent};
 pub use da_settings::{Goal, Mechs, Passdbs, Settings, Texts, Userdbs};

@@ -1,26 +1,21 @@
-use Rattle.std.proofs.Common.{◌∙◌, sym, ap, arith, reverse, take, ◌-◌}
-use Rattle.da_play.specs.History.{tables_of}
-use Rattle.da_play.specs.Legal.{size}
+use Rattle.std.proofs.Common.{subst, sym, arith, reverse, take}
+use Rattle.da_entry.proofs.Replays.{passes_on}
+use Rattle.da_entry.specs.Bridges.{IsReplayed}
 use Rattle.da_play.proofs.FewRows.{rows_fit}
-use Rattle.da_hist.proofs.Replays.{one_further, replayed, left_now}
+use Rattle.da_hist.proofs.Replays.{one_further}
 use Rattle.da_hist.proofs.replay.replay.Goals as goal
 
-pub apply_entry-requires-clause-requests : goal.apply_entry-requires-clause-requests
-apply_entry-requires-clause-requests c = (rows_fit c.args.settings.now c.args.entries.now c.loop-entry.entry-index _ c.loop-entry.tables c.loop-entry.invariant.tables c.requires).requests
+pub pass-requires-clause-requests : goal.pass-requires-clause-requests
+pass-requires-clause-requests c = (rows_fit c.args.settings.now c.args.entries.now c.loop-entry.entry-index _ c.loop-entry.replayed.tables c.loop-entry.invariant.tables c.requires).requests
 
-pub apply_entry-requires-clause-connections : goal.apply_entry-requires-clause-connections
-apply_entry-requires-clause-connections c = (rows_fit c.args.settings.now c.args.entries.now c.loop-entry.entry-index _ c.loop-entry.tables c.loop-entry.invariant.tables c.requires).connections
+pub pass-requires-clause-connections : goal.pass-requires-clause-connections
+pass-requires-clause-connections c = (rows_fit c.args.settings.now c.args.entries.now c.loop-entry.entry-index _ c.loop-entry.replayed.tables c.loop-entry.invariant.tables c.requires).connections
 
-pub apply_entry-requires-clause-queries : goal.apply_entry-requires-clause-queries
-apply_entry-requires-clause-queries c = (rows_fit c.args.settings.now c.args.entries.now c.loop-entry.entry-index _ c.loop-entry.tables c.loop-entry.invariant.tables c.requires).queries
+pub pass-requires-clause-queries : goal.pass-requires-clause-queries
+pass-requires-clause-queries c = (rows_fit c.args.settings.now c.args.entries.now c.loop-entry.entry-index _ c.loop-entry.replayed.tables c.loop-entry.invariant.tables c.requires).queries
 
 pub loop-entry-preserved : goal.loop-entry-preserved
 loop-entry-preserved c =
     let further = one_further c.args.entries.now c.loop-entry.entry-index c.entry-item.result c.entry-item.result (omega (arith, c.loop-entry-test.true, c.loop-entry.auto.entry-index-end)) (cc) in
-    record {
-      tables = replayed c.args.settings.now (reverse (take c.loop-entry.entry-index c.args.entries.now)) c.entry-item.result c.loop-entry.tables c.apply_entry.new.tables c.in_ok-effects.effects
-          c.loop-entry.invariant.tables c.in_ok-effects.ensures.tables ∙ ap (tables_of c.args.settings.now) (sym further);
-      left = left_now c.args.settings.now (reverse (take c.loop-entry.entry-index c.args.entries.now)) c.entry-item.result c.loop-entry.tables c.apply_entry.new.tables c.in_ok-effects.effects
-          c.loop-entry.left c.in_ok-left.left c.loop-entry.invariant.tables c.in_ok-effects.ensures.tables c.in_ok-effects.ensures.effects c.loop-entry.invariant.left c.in_ok-left.ensures
-          ∙ ap (λ h. c.args.settings.now.history_bytes - size c.args.settings.now h) (sym further);
-    }
+    subst (λ h. IsReplayed c.args.settings.now h c.pass.new.self) (sym further)
+    (passes_on c.args.settings.now (reverse (take c.loop-entry.entry-index c.args.entries.now)) c.entry-item.result c.loop-entry.replayed c.pass.new.self c.loop-entry.invariant c.in_ok-pass.ensures)

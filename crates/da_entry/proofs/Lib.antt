@@ -1,0 +1,2 @@
+mod NoHits
+pub mod Replays
