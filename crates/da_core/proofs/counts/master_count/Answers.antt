@@ -1,0 +1,7 @@
+use Rattle.std.proofs.Common.{◌∙◌, sym, rules}
+use Rattle.std.proofs.lemmas.Grind.{common_steps}
+use Rattle.da_tables.proofs.RowChanges.{count_where_is}
+use Rattle.da_core.proofs.counts.master_count.Goals as goal
+
+pub returns : goal.returns
+returns c = rw count_where_is (search rules)
