@@ -1,22 +1,14 @@
 -- The stages of seats, and what a view that knows no more keeps.
-use Rattle.std.proofs.Common.{◌≡◌, ◌≢◌, ◌⊎◌, ⊎_elim, inl, inr, ℕ, zero, suc, ◌+◌, ◌-◌, ◌%◌, ◌^◌, ◌<◌, ◌≤◌, eqb, List, [], ◌∷◌, ◌++◌, length, get_or, set, refl, sym, ap, ◌∙◌, subst, arith, Bool, Option, Some, None, eq-eqb, ne_eqb, mod-eq_of_lt, append-nil}
-use mathlib.Core.Logic.{dite}
+use Rattle.std.proofs.Common.{◌≡◌, ◌≢◌, ⊎_elim, inl, inr, ℕ, zero, suc, List, [], ◌∷◌, set, refl, sym, ap, ◌∙◌, Option, Some}
 use mathlib.Core.Option.{none, some, some-ne-none, some-injective}
 use mathlib.Core.Option as maybe
-use native.Mathlib.Decide.{ℕ_discrete}
 use lib.ListN.{get_elem?}
-use lib.Seq.{set-get_or}
-use prog.Atomic.{either}
-use Rattle.atomic_table.specs.Table.{State, Me, step, Act, keeps, takes, gives, rest, put_back, carried_after, Valid, stepped, Allows, Splits, Joins, opening, Final, Seen}
-use Rattle.atomic_table.proofs.Lists.{set_here, set_else, at_set, set_again, at_longer}
+use Rattle.atomic_table.proofs.Lists.{set_else}
 use Rattle.da_turn.specs.declared.view.View.{View}
 use Rattle.da_turn.specs.declared.view.LockStage.{LockStage}
 use Rattle.da_turn.specs.declared.view.LockStage.TheVariants.{Free, Drew, Due, Has}
-use Rattle.da_turn.specs.Entries.{IsLater, In, Named, NumbersApart, merged, longer}
-use Rattle.da_turn.specs.Law.{InLine, number, Owns, EntriesDiffer, Sound, Queue, Fits, History, Out, NoneHas, staged, free, newcomer, nobody, parted_once, parted_from, hosting, settle, with_entry, Slot, Ruled, drew, looked, took, counted, passed, settled}
-use Rattle.da_turn.proofs.Entries.{prefix_self, prefix_snoc, at_below, longer_of, rising_snoc, in_snoc, in_merged, rising_merged, named_longer, named_snoc, named_merged, named_below}
-use Rattle.da_turn.proofs.Views.{each_set, pairs_set, each_end, pairs_end}
-use Rattle.da_turn.proofs.Line.{some_is, below, draws_in, keeps_place, passes_on, comes_free}
+use Rattle.da_turn.specs.Law.{Owns, EntriesDiffer, Fits, History, Out, NoneHas, staged, Slot}
+use Rattle.da_turn.proofs.Views.{each_set, pairs_set}
 
 module _ {E : Type 0} where
   pub not_has : (n m : ℕ) (at : List E) → Drew n ≡ Has m at → ⊥
