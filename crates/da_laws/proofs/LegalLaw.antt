@@ -88,7 +88,7 @@ next_is_next settings h m input e =
     let both : (is_full settings h ≡ false) × (input_refusal settings (tables_of settings h) (entry_moment h m) input ≡ None) = cond_none _ _ _ e in
     record { later_or_same = omega arith; has_room = both.0; is_allowed = allowed_input settings (tables_of settings h) (entry_moment h m) input both.1; hits = made_hits settings h (entry_moment h m) input }
 
-legal_after : (settings : Settings) (h : List Entry) (m : ℕ) (input : Input) → IsLegal settings h → IsLegal settings (history_after settings h m input)
+pub legal_after : (settings : Settings) (h : List Entry) (m : ℕ) (input : Input) → IsLegal settings h → IsLegal settings (history_after settings h m input)
 legal_after settings h m input l = go (refusal settings h (entry_moment h m) input) refl
   where
     go : (o : Option Refused) → refusal settings h (entry_moment h m) input ≡ o → IsLegal settings (option_or_else o (next_entry settings h m input ∷ h) (λ r. h))

@@ -203,7 +203,7 @@ module _ (settings : Settings) (e : Entry) (g : List Entry) where
   opened_same (Late query) = refl
   opened_same Tick = refl
 
-  open_step : (conn : ℕ) → is_open_in (tables_of settings (e ∷ g)) conn ≡ (names conn (effects settings (tables_of settings g) e).opened || (is_open_in (tables_of settings g) conn && not (ends settings g e conn)))
+  pub open_step : (conn : ℕ) → is_open_in (tables_of settings (e ∷ g)) conn ≡ (names conn (effects settings (tables_of settings g) e).opened || (is_open_in (tables_of settings g) conn && not (ends settings g e conn)))
   unfolding effects with_due_replied
   open_step conn = ap (λ cs. open_at cs conn) connections_after ∙ open_input settings e.moment now e.input conn
       ∙ ap (λ (o : Option ℕ). names conn o || (is_open_in now conn && not (ends_by e.input h.closed conn))) (opened_same e.input)

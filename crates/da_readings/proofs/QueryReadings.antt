@@ -148,7 +148,7 @@ module _ (settings : Settings) (e : Entry) (origin : Tables) where
   unfolding with_due_replied
   same_running n = refl
 
-  hands_out : e.input ≡ Take → (effects settings origin e).handed_out ≡ Some (first_waiting before)
+  pub hands_out : e.input ≡ Take → (effects settings origin e).handed_out ≡ Some (first_waiting before)
   unfolding effects
   hands_out l = ap (λ (i : Input). handed_out_by i before) l
 
@@ -212,7 +212,7 @@ module _ (settings : Settings) where
     now = with_due_replied settings e.moment (tables_of settings g)
 
     -- what a Take hands out is taken
-    taken_row : (n : ℕ) → e.input ≡ Take → (effects settings (tables_of settings g) e).handed_out ≡ Some (suc n) → (b : QueryRow) × (nth (tables_of settings (e ∷ g)).queries (suc n) ≡ Some b) × (b.taken ≡ Some e.moment)
+    pub taken_row : (n : ℕ) → e.input ≡ Take → (effects settings (tables_of settings g) e).handed_out ≡ Some (suc n) → (b : QueryRow) × (nth (tables_of settings (e ∷ g)).queries (suc n) ≡ Some b) × (b.taken ≡ Some e.moment)
     unfolding after_input
     taken_row n l h = go (number_found (is_waiting now) now.queries n number)
       where
