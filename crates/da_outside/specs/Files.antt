@@ -1,4 +1,4 @@
--- What files hold, and what a read of one gives.
+-- What files hold and tell, and what a read of one gives.
 use Rattle.std.specs.Prelude.{ℕ, ◌<◌, ◌≤◌, ◌≡◌, ⊤, List, [], ◌∷◌, ◌++◌, map, length, Option, None, Some, Result, Ok, Err, IfSome, Vec, option_map, unwrap_or, bytes_eq, if◌then◌else◌}
 use Rattle.std.specs.declared.alloc.Global.{Global}
 use Rattle.da_outside.specs.declared.faults.GetFault.{GetFault}
@@ -30,6 +30,13 @@ ReadGives held path max (Err Long) = IfSome held (λ files. max < length (bytes_
 ReadGives held path max (Err Failed) = ⊤
 ReadGives held path max (Err NoMemory) = ⊤
 
+-- What files tell at one moment: the files that they hold, of equal paths the first, the reads made, oldest first, where
+-- they tell these, and how often they failed.
+pub record FilesState : Type 0 where
+  pub held : Option (List File)
+  pub past : Option (List FileRead)
+  pub faults : ℕ
+
 -- what the past keeps of a read
 abbrev pub file_read : List ℕ → Result (Vec ℕ Global) GetFault → Option FileRead
 file_read path result = option_map (λ got. record { path = path; got = got }) (got_of result)
@@ -41,15 +48,19 @@ abbrev pub files_of : List (Vec ℕ Global × Vec ℕ Global) → List File
 files_of files = map (λ file. (file.0.items, file.1.items)) files
 
 -- the files that are held, the reads made, and their calls
-pub record FilesState : Type 0 where
+pub record MemFilesState : Type 0 where
   pub held : List File
   pub past : List FileRead
   pub calls : Counts
 
+-- what such files tell
+abbrev pub mem_files : MemFilesState → FilesState
+mem_files files = record { held = Some files.held; past = Some files.past; faults = files.calls.faults }
+
 -- what the next read gives: a fault where the call is one of those that fail, and where no file has the path
-abbrev pub mem_read : FilesState → List ℕ → ℕ → Got
+abbrev pub mem_read : MemFilesState → List ℕ → ℕ → Got
 mem_read files path max = if fails_next files.calls then Fault else option_map_or (got_within max) (file_at files.held path) Fault
 
 -- the files after a read that gave this
-abbrev pub after_read : FilesState → List ℕ → Got → FilesState
+abbrev pub after_read : MemFilesState → List ℕ → Got → MemFilesState
 after_read files path got = record { held = files.held; past = files.past ++ record { path = path; got = got } ∷ []; calls = called files.calls (is_fault got) }

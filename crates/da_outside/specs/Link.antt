@@ -1,4 +1,4 @@
--- What a link says, and what a receive takes from its bytes.
+-- What a link tells, and what a receive takes from its bytes.
 use Rattle.std.specs.Prelude.{ℕ, ◌≤◌, ◌≡◌, Bool, false, List, [], ◌∷◌, ◌++◌, length, Option, None, Some, Result, Ok, Err, Vec, option_map, IfSome, IsErr, IsErrOf, IsTrue, MatchOption, is_err, if◌then◌else◌}
 use Rattle.std.specs.Io.KnownBytes.{Consumes, Keeps}
 use Rattle.std.specs.declared.alloc.Global.{Global}
@@ -12,6 +12,13 @@ use Rattle.da_outside.specs.Causes.{HasCause, HasGetCause}
 use Rattle.da_outside.specs.Past.{Gains, Recalls}
 use Rattle.da_outside.specs.Got.{got_of, is_fault}
 use Rattle.da_outside.specs.Rest.{IsCutLine, LacksEnd}
+
+-- at one moment: the bytes that will come in, its sends and receives, oldest first, where it tells these, and how often
+-- it failed
+pub record LinkState : Type 0 where
+  pub left : Option (List ℕ)
+  pub talk : Option (List Spoken)
+  pub faults : ℕ
 
 -- what may stand before an LF
 pub record IsLine (line : List ℕ) : Type 0 where
@@ -44,10 +51,14 @@ SendRecalls before now line (Err fault) = (kept : Bool) × Recalls before now (i
 -- ---- links in memory
 
 -- the bytes to come, the talk so far, and the calls
-pub record LinkState : Type 0 where
+pub record MemLinkState : Type 0 where
   pub bytes : List ℕ
   pub talk : List Spoken
   pub calls : Counts
+
+-- what such a link tells
+abbrev pub mem_link : MemLinkState → LinkState
+mem_link link = record { left = Some link.bytes; talk = Some link.talk; faults = link.calls.faults }
 
 -- a line that stands at the front of the bytes, or an empty one where there are none
 abbrev pub SoundLine : List ℕ → List ℕ → Vec ℕ Global → Type 0
@@ -62,7 +73,7 @@ SoundReceives before now (Err Failed) = ⊥
 SoundReceives before now (Err NoMemory) = now ≡ before
 
 -- A send of a link in memory. It fails where its number is one of those that fail, and where memory is wanted.
-pub record MemSends {T E : Type 0} (before now : LinkState) (line : List ℕ) (result : Result T E) : Type 0 where
+pub record MemSends {T E : Type 0} (before now : MemLinkState) (line : List ℕ) (result : Result T E) : Type 0 where
   pub bytes : now.bytes ≡ before.bytes
   pub talk : SendRecalls (Some before.talk) (Some now.talk) line result
   pub cause : HasCause before.calls.faults now.calls.faults result
@@ -70,7 +81,7 @@ pub record MemSends {T E : Type 0} (before now : LinkState) (line : List ℕ) (r
   pub calls : now.calls ≡ called before.calls (is_err result)
 
 -- A receive of a link in memory. It fails exactly where its number is one of those that fail, or no line comes.
-pub record MemReceives (before now : LinkState) (result : Result (Vec ℕ Global) GetFault) : Type 0 where
+pub record MemReceives (before now : MemLinkState) (result : Result (Vec ℕ Global) GetFault) : Type 0 where
   pub bytes : Receives (Some before.bytes) (Some now.bytes) result
   pub talk : Recalls (Some before.talk) (Some now.talk) (received result)
   pub cause : HasGetCause before.calls.faults now.calls.faults result

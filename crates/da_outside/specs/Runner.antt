@@ -1,10 +1,16 @@
--- What a runner keeps of its runs.
+-- What a runner tells, and what it keeps of its runs.
 use Rattle.std.specs.Prelude.{ℕ, ◌≡◌, List, [], ◌∷◌, take, Option, None, Some, Result, Ok, Err, option_map}
 use Rattle.da_outside.specs.declared.faults.GetFault.{GetFault}
 use Rattle.da_outside.specs.declared.faults.GetFault.TheVariants.{Failed, Long, NoMemory}
 use Rattle.da_outside.specs.declared.runner.Exit.{Exit}
 use Rattle.da_outside.specs.declared.runner.Run.{Run}
 use Rattle.da_outside.specs.Calls.{Counts}
+
+-- at one moment: the exits to come, its runs, oldest first, where it tells these, and how often it failed
+pub record RunnerState : Type 0 where
+  pub left : Option (List Exit)
+  pub past : Option (List Run)
+  pub faults : ℕ
 
 -- how a run ended, with no exit where it failed; nothing where the call wanted memory
 abbrev pub ended : Result Exit GetFault → Option (Option Exit)
@@ -24,10 +30,14 @@ abbrev pub cut_exit : Exit → Exit
 cut_exit exit = record { status = exit.status; reply = take 8194 exit.reply }
 
 -- the exits to come, the runs made, and the calls
-pub record RunnerState : Type 0 where
+pub record MemRunnerState : Type 0 where
   pub left : List Exit
   pub past : List Run
   pub calls : Counts
+
+-- what such a runner tells
+abbrev pub mem_runner : MemRunnerState → RunnerState
+mem_runner runner = record { left = Some runner.left; past = Some runner.past; faults = runner.calls.faults }
 
 -- The first exit is given, cut. Where none is left the status is 0 and the reply empty.
 abbrev pub SoundRuns : List Exit → List Exit → Exit → Type 0

@@ -1,8 +1,7 @@
-ghost use Rattle.std.specs.Prelude.{◌≡◌, [], List, ℕ, Option, None, Some, IfSome, MatchOption, IfOk, option_map};
-ghost use Rattle.da_outside.specs.declared.files.FileRead.{FileRead};
+ghost use Rattle.std.specs.Prelude.{◌≡◌, [], None, Some, IfSome, MatchOption, option_map};
 ghost use Rattle.da_outside.specs.Calls.{no_calls};
 ghost use Rattle.da_outside.specs.Causes.{HasGetCause};
-ghost use Rattle.da_outside.specs.Files.{File, ReadGives, after_read, bytes_at, file_at, file_read, files_of, mem_read};
+ghost use Rattle.da_outside.specs.Files.{FilesState, ReadGives, after_read, bytes_at, file_at, file_read, files_of, mem_files, mem_read};
 ghost use Rattle.da_outside.specs.Got.{got_of, got_within};
 ghost use Rattle.da_outside.specs.Past.{Recalls};
 
@@ -21,21 +20,16 @@ pub struct FileRead {
 
 /// Files that can be read.
 pub trait Files {
-    /// The files that it holds, where it tells them. Of equal paths the first holds.
-    ghost held: { Self → Option (List File) };
-
-    /// Its reads in order, where it tells them, without those that wanted memory.
-    ghost past: { Self → Option (List FileRead) };
-
-    /// How often it failed.
-    ghost faults: { Self → ℕ };
+    /// What they tell: the files that they hold, of equal paths the first; the reads made, without those that wanted
+    /// memory; and how often they failed.
+    ghost state: { Self → FilesState };
 
     /// The bytes of the file at `path`. It is `Long` exactly where these are more than `max`.
     fn read(&mut self, alloc: Global, path: &[u8], max: usize) -> Result<Vec<u8>, GetFault>
-        ensures held { held self.new ≡ held self.old }
-        ensures past { Recalls (past self.old) (past self.new) (file_read path.now result) }
-        ensures gives { ReadGives (held self.old) path.now max result }
-        ensures cause { HasGetCause (faults self.old) (faults self.new) result };
+        ensures held { (state self.new).held ≡ (state self.old).held }
+        ensures past { Recalls (state self.old).past (state self.new).past (file_read path.now result) }
+        ensures gives { ReadGives (state self.old).held path.now max result }
+        ensures cause { HasGetCause (state self.old).faults (state self.new).faults result };
 }
 
 /// The bytes of the first file at `path`.
@@ -59,9 +53,9 @@ pub struct MemFiles {
 }
 
 impl Model for MemFiles {
-    ghost use Rattle.da_outside.specs.Files.{FilesState, files_of};
+    ghost use Rattle.da_outside.specs.Files.{MemFilesState, files_of};
 
-    ghost Value = { FilesState };
+    ghost Value = { MemFilesState };
 
     ghost view = { λ files. record { held = files_of files.files.items; past = files.past.items; calls = files.calls } };
 }
@@ -101,11 +95,7 @@ impl MemFiles {
 }
 
 impl Files for MemFiles {
-    ghost held = { λ files. Some files.held };
-
-    ghost past = { λ files. Some files.past };
-
-    ghost faults = { λ files. files.calls.faults };
+    ghost state = { mem_files };
 
     /// It fails exactly where `fail` holds the call's number or no file has the path. A call that wants memory changes
     /// nothing, and has no number.
@@ -152,11 +142,7 @@ impl SoundFiles {
 }
 
 impl Files for SoundFiles {
-    ghost held = { λ files. Some files };
-
-    ghost past = { λ _. None };
-
-    ghost faults = { λ _. 0 };
+    ghost state = { λ files. record { held = Some files; past = None; faults = 0 } };
 
     fn read(&mut self, alloc: Global, path: &[u8], max: usize) -> Result<Vec<u8>, GetFault>
         ensures held { Some self.new ≡ Some self.old }

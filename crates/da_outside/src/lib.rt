@@ -1,8 +1,8 @@
 //! What the service reaches outside of itself, as traits: sources and sinks of bytes, files, links to workers and what
-//! starts them, programs that are run, sockets that connections come in at, clocks, random bytes and rests. Each trait
-//! says what an object holds or has left, where the object tells that, and how often it failed. That count never falls,
-//! and a call answers that it failed only where the count rose in that call, or stands at its last value. So code that
-//! is generic over a trait can't make a fault up.
+//! starts them, programs that are run, sockets that connections come in at, clocks, random bytes and rests. The `state`
+//! of an object is one record: what it holds or has left, as far as the object tells that, and how often it failed. That
+//! count never falls, and a call answers that it failed only where the count rose in that call, or stands at its last
+//! value. So code that is generic over a trait can't make a fault up.
 //!
 //! Each trait with faults has two forms in memory. One with the prefix `Mem` holds its contents and a list of the calls
 //! that fail. One with the prefix `Sound` never fails.

@@ -1,13 +1,11 @@
-ghost use Rattle.std.specs.Prelude.{◌≡◌, ◌++◌, ◌∷◌, [], List, ℕ, Option, None, Some, Ok, Err, IfSome, IsTrue, IsErr, IsErrOf, MatchOption, MatchResult, is_err, false};
+ghost use Rattle.std.specs.Prelude.{◌≡◌, ◌++◌, ◌∷◌, [], List, ℕ, None, Ok, Err, MatchResult, is_err, false};
 ghost use Rattle.std.specs.Io.{IsEmptyOrEndsWith};
 ghost use Rattle.std.specs.Io.KnownBytes.{Keeps};
-ghost use Rattle.da_outside.specs.declared.link.Spoken.{Spoken};
-ghost use Rattle.da_outside.specs.Calls.{called, fails_next, no_calls};
+ghost use Rattle.da_outside.specs.Calls.{fails_next, no_calls};
 ghost use Rattle.da_outside.specs.Causes.{HasCause, HasGetCause};
-ghost use Rattle.da_outside.specs.Got.{got_of, is_fault};
-ghost use Rattle.da_outside.specs.Link.{MemReceives, MemSends, Receives, SendRecalls, SoundReceives, received};
+ghost use Rattle.da_outside.specs.Got.{is_fault};
+ghost use Rattle.da_outside.specs.Link.{LinkState, mem_link, MemReceives, MemSends, Receives, SendRecalls, SoundReceives, received};
 ghost use Rattle.da_outside.specs.Past.{Recalls};
-ghost use Rattle.da_outside.specs.Rest.{IsCutLine};
 
 use crate::calls::Calls;
 use crate::faults::keep;
@@ -29,27 +27,22 @@ pub enum Spoken {
 
 /// Lines to and from one peer, as a worker.
 pub trait Link {
-    /// The bytes that will come in, where it tells them.
-    ghost left: { Self → Option (List ℕ) };
-
-    /// Its sends and receives in order, where it tells them, without those that wanted memory.
-    ghost talk: { Self → Option (List Spoken) };
-
-    /// How often it failed.
-    ghost faults: { Self → ℕ };
+    /// What it tells: the bytes that will come in; its sends and receives, without those that wanted memory; and how
+    /// often it failed.
+    ghost state: { Self → LinkState };
 
     /// Sends a line, which is given without its LF.
     fn send(&mut self, line: &[u8]) -> Result<(), Failed>
-        ensures left { Keeps (left self.old) (left self.new) }
-        ensures talk { SendRecalls (talk self.old) (talk self.new) line.now result }
-        ensures cause { HasCause (faults self.old) (faults self.new) result };
+        ensures left { Keeps (state self.old).left (state self.new).left }
+        ensures talk { SendRecalls (state self.old).talk (state self.new).talk line.now result }
+        ensures cause { HasCause (state self.old).faults (state self.new).faults result };
 
     /// The next line, without its LF. It is `Long` exactly where 8193 bytes come without LF. The end of what comes in,
     /// also within a line, is `Failed`.
     fn receive(&mut self, alloc: Global) -> Result<Vec<u8>, GetFault>
-        ensures gives { Receives (left self.old) (left self.new) result }
-        ensures talk { Recalls (talk self.old) (talk self.new) (received result) }
-        ensures cause { HasGetCause (faults self.old) (faults self.new) result };
+        ensures gives { Receives (state self.old).left (state self.new).left result }
+        ensures talk { Recalls (state self.old).talk (state self.new).talk (received result) }
+        ensures cause { HasGetCause (state self.old).faults (state self.new).faults result };
 }
 
 /// A link to which these bytes come in, some calls of which fail. It keeps its talk.
@@ -61,9 +54,9 @@ pub struct MemLink {
 }
 
 impl Model for MemLink {
-    ghost use Rattle.da_outside.specs.Link.{LinkState};
+    ghost use Rattle.da_outside.specs.Link.{MemLinkState};
 
-    ghost Value = { LinkState };
+    ghost Value = { MemLinkState };
 
     ghost view = { λ link. record { bytes = link.rest; talk = link.talk.items; calls = link.calls } };
 }
@@ -109,11 +102,7 @@ impl MemLink {
 }
 
 impl Link for MemLink {
-    ghost left = { λ link. Some link.bytes };
-
-    ghost talk = { λ link. Some link.talk };
-
-    ghost faults = { λ link. link.calls.faults };
+    ghost state = { mem_link };
 
     /// It fails where `fail` holds the call's number, and where memory is wanted.
     fn send(&mut self, line: &[u8]) -> Result<(), Failed>
@@ -175,11 +164,7 @@ impl SoundLink {
 }
 
 impl Link for SoundLink {
-    ghost left = { λ _. None };
-
-    ghost talk = { λ _. None };
-
-    ghost faults = { λ _. 0 };
+    ghost state = { λ _. record { left = None; talk = None; faults = 0 } };
 
     fn send(&mut self, _line: &[u8]) -> Result<(), Failed>
         ensures sent { result ≡ Ok tt }

@@ -1,8 +1,8 @@
-ghost use Rattle.std.specs.Prelude.{◌≡◌, [], List, ℕ, Option, None, Some, Ok, IsErr, IsErrOf, IsOkAnd, IsTrue, is_err, false};
+ghost use Rattle.std.specs.Prelude.{◌≡◌, [], List, ℕ, None, Some, Ok, IsErr, IsErrOf, IsOkAnd, IsTrue, is_err, false};
 ghost use Rattle.std.specs.Result.{result_ok};
 ghost use Rattle.da_outside.specs.Calls.{called, fails_next, no_calls};
 ghost use Rattle.da_outside.specs.Causes.{HasGetCause};
-ghost use Rattle.da_outside.specs.Listen.{SoundAccepts};
+ghost use Rattle.da_outside.specs.Listen.{ListenState, SoundAccepts, mem_listen};
 ghost use Rattle.da_outside.specs.Past.{Stays, Takes};
 
 use crate::calls::Calls;
@@ -17,23 +17,20 @@ pub trait Listen {
 
     type Sink: Sink;
 
-    /// The connections to come, where it tells them.
-    ghost left: { Self → Option (List (Self.Source × Self.Sink)) };
-
-    /// How often it failed.
-    ghost faults: { Self → ℕ };
+    /// What it tells: the connections to come, and how often it failed.
+    ghost state: { Self → ListenState (Self.Source × Self.Sink) };
 
     /// Binds it to a path. It is never `Long`.
     fn bind(&mut self, alloc: Global, path: &[u8]) -> Result<(), GetFault>
         ensures never_long { IsErrOf result GetFault.Long → ⊥ }
-        ensures left { Stays (left self.old) (left self.new) }
-        ensures cause { HasGetCause (faults self.old) (faults self.new) result };
+        ensures left { Stays (state self.old).left (state self.new).left }
+        ensures cause { HasGetCause (state self.old).faults (state self.new).faults result };
 
     /// The next connection. It is never `Long`.
     fn accept(&mut self, alloc: Global) -> Result<(Self::Source, Self::Sink), GetFault>
         ensures never_long { IsErrOf result GetFault.Long → ⊥ }
-        ensures left { Takes (left self.old) (left self.new) (result_ok result) }
-        ensures cause { HasGetCause (faults self.old) (faults self.new) result };
+        ensures left { Takes (state self.old).left (state self.new).left (result_ok result) }
+        ensures cause { HasGetCause (state self.old).faults (state self.new).faults result };
 }
 
 /// A listener that gives these connections, and some calls of which fail.
@@ -44,9 +41,9 @@ pub struct MemListen {
 }
 
 impl Model for MemListen {
-    ghost use Rattle.da_outside.specs.Listen.{ListenState};
+    ghost use Rattle.da_outside.specs.Listen.{MemListenState};
 
-    ghost Value = { ListenState };
+    ghost Value = { MemListenState };
 
     ghost view = { λ listen. record { left = listen.conns.items; calls = listen.calls } };
 }
@@ -68,9 +65,7 @@ impl Listen for MemListen {
 
     type Sink = MemSink;
 
-    ghost left = { λ listen. Some listen.left };
-
-    ghost faults = { λ listen. listen.calls.faults };
+    ghost state = { mem_listen };
 
     /// It fails exactly where `fail` holds the call's number.
     fn bind(&mut self, _alloc: Global, _path: &[u8]) -> Result<(), GetFault>
@@ -139,9 +134,7 @@ impl Listen for SoundListen {
 
     type Sink = SoundSink;
 
-    ghost left = { λ _. None };
-
-    ghost faults = { λ _. 0 };
+    ghost state = { λ _. record { left = None; faults = 0 } };
 
     fn bind(&mut self, _alloc: Global, _path: &[u8]) -> Result<(), GetFault>
         ensures bound { result ≡ Ok tt }

@@ -1,11 +1,11 @@
-ghost use Rattle.std.specs.Prelude.{◌≡◌, ◌≤◌, ◌++◌, ◌∷◌, [], List, ℕ, Option, None, Some, Err, IfOk, IsErrOf, IsOkAnd, IsTrue, MatchOption, MatchResult, is_none, length, map, false};
+ghost use Rattle.std.specs.Prelude.{◌≡◌, ◌≤◌, ◌++◌, ◌∷◌, [], List, Option, None, Some, Err, IfOk, IsErrOf, IsOkAnd, IsTrue, MatchOption, MatchResult, is_none, length, map, false};
 ghost use Rattle.std.specs.Result.{result_ok};
 ghost use Rattle.da_outside.specs.declared.runner.Exit.{Exit};
 ghost use Rattle.da_outside.specs.declared.runner.Run.{Run};
 ghost use Rattle.da_outside.specs.Calls.{called, fails_next, no_calls};
 ghost use Rattle.da_outside.specs.Causes.{HasGetCause};
 ghost use Rattle.da_outside.specs.Past.{Recalls, Takes};
-ghost use Rattle.da_outside.specs.Runner.{SoundRuns, cut_exit, ended, run_kept};
+ghost use Rattle.da_outside.specs.Runner.{RunnerState, SoundRuns, cut_exit, ended, mem_runner, run_kept};
 
 use crate::calls::Calls;
 use crate::first::take_first;
@@ -47,22 +47,16 @@ pub struct Run {
 
 /// What runs programs.
 pub trait Runner {
-    /// The exits to come, where it tells them.
-    ghost left: { Self → Option (List Exit) };
-
-    /// Its runs in order, where it tells them, without those that wanted memory.
-    ghost past: { Self → Option (List Run) };
-
-    /// How often it failed.
-    ghost faults: { Self → ℕ };
+    /// What it tells: the exits to come; its runs, without those that wanted memory; and how often it failed.
+    ghost state: { Self → RunnerState };
 
     /// Runs the program on this input. It is never `Long`.
     fn run(&mut self, alloc: Global, program: &[u8], input: &[u8]) -> Result<Exit, GetFault>
         ensures short { IfOk result (λ exit. length exit.reply ≤ 8194) }
         ensures never_long { IsErrOf result GetFault.Long → ⊥ }
-        ensures left { Takes (left self.old) (left self.new) (result_ok result) }
-        ensures past { Recalls (past self.old) (past self.new) (run_kept program.now input.now result) }
-        ensures cause { HasGetCause (faults self.old) (faults self.new) result };
+        ensures left { Takes (state self.old).left (state self.new).left (result_ok result) }
+        ensures past { Recalls (state self.old).past (state self.new).past (run_kept program.now input.now result) }
+        ensures cause { HasGetCause (state self.old).faults (state self.new).faults result };
 }
 
 /// A runner that gives these exits, and some calls of which fail. It keeps its runs.
@@ -75,9 +69,9 @@ pub struct MemRunner {
 
 impl Model for MemRunner {
     ghost use Rattle.std.specs.Prelude.{map};
-    ghost use Rattle.da_outside.specs.Runner.{RunnerState, cut_exit};
+    ghost use Rattle.da_outside.specs.Runner.{MemRunnerState, cut_exit};
 
-    ghost Value = { RunnerState };
+    ghost Value = { MemRunnerState };
 
     ghost view = { λ runner. record { left = map cut_exit runner.exits.items; past = runner.past.items; calls = runner.calls } };
 }
@@ -125,11 +119,7 @@ fn keep_run(
 }
 
 impl Runner for MemRunner {
-    ghost left = { λ runner. Some runner.left };
-
-    ghost past = { λ runner. Some runner.past };
-
-    ghost faults = { λ runner. runner.calls.faults };
+    ghost state = { mem_runner };
 
     /// It fails exactly where `fail` holds the call's number or no exit is left. A call that wants memory changes
     /// nothing, and has no number.
@@ -184,11 +174,7 @@ impl SoundRunner {
 }
 
 impl Runner for SoundRunner {
-    ghost left = { λ _. None };
-
-    ghost past = { λ _. None };
-
-    ghost faults = { λ _. 0 };
+    ghost state = { λ _. record { left = None; past = None; faults = 0 } };
 
     fn run(&mut self, alloc: Global, _program: &[u8], _input: &[u8]) -> Result<Exit, GetFault>
         ensures short { IfOk result (λ exit. length exit.reply ≤ 8194) }

@@ -1,8 +1,9 @@
-ghost use Rattle.std.specs.Prelude.{◌≡◌, ◌<◌, [], List, ℕ, Option, None, Some, Ok, IfOk, IsTrue, IsErr, is_err, length};
+ghost use Rattle.std.specs.Prelude.{◌≡◌, ◌<◌, [], None, Some, Ok, IfOk, IsTrue, IsErr, is_err, length};
 ghost use Rattle.std.specs.Io.{WritesAtMost};
 ghost use Rattle.std.specs.Io.KnownBytes.{WriteAppends};
 ghost use Rattle.da_outside.specs.Calls.{called, fails_next, no_calls};
 ghost use Rattle.da_outside.specs.Causes.{HasCause};
+ghost use Rattle.da_outside.specs.Sink.{SinkState, mem_sink};
 
 use crate::Failed;
 use crate::calls::Calls;
@@ -11,19 +12,16 @@ use std::marker::Model;
 
 /// A place that bytes go to, as a connection or standard output.
 pub trait Sink {
-    /// The bytes that it took, in order, where it tells them.
-    ghost contents: { Self → Option (List ℕ) };
-
-    /// How often it failed.
-    ghost faults: { Self → ℕ };
+    /// What it tells: the bytes that it took, in order, and how often it failed.
+    ghost state: { Self → SinkState };
 
     /// Takes bytes from the front of `piece`, at least one where there is one, and answers how many it took.
     /// A call that fails takes nothing.
     fn write(&mut self, piece: &[u8]) -> Result<usize, Failed>
         ensures bound { WritesAtMost result piece.now }
         ensures some { IfOk result (λ n. 0 < length piece.now → 0 < n) }
-        ensures bytes { WriteAppends (contents self.old) (contents self.new) result piece.now }
-        ensures cause { HasCause (faults self.old) (faults self.new) result };
+        ensures bytes { WriteAppends (state self.old).contents (state self.new).contents result piece.now }
+        ensures cause { HasCause (state self.old).faults (state self.new).faults result };
 }
 
 /// A sink that keeps what it takes, and some calls of which fail.
@@ -34,9 +32,9 @@ pub struct MemSink {
 }
 
 impl Model for MemSink {
-    ghost use Rattle.da_outside.specs.Sink.{SinkState};
+    ghost use Rattle.da_outside.specs.Sink.{MemSinkState};
 
-    ghost Value = { SinkState };
+    ghost Value = { MemSinkState };
 
     ghost view = { λ sink. record { bytes = sink.bytes.items; calls = sink.calls } };
 }
@@ -61,9 +59,7 @@ impl MemSink {
 }
 
 impl Sink for MemSink {
-    ghost contents = { λ sink. Some sink.bytes };
-
-    ghost faults = { λ sink. sink.calls.faults };
+    ghost state = { mem_sink };
 
     /// It takes the whole piece. It fails where `fail` holds the call's number, and where memory is wanted.
     fn write(&mut self, piece: &[u8]) -> Result<usize, Failed>
@@ -95,9 +91,7 @@ impl SoundSink {
 }
 
 impl Sink for SoundSink {
-    ghost contents = { λ _. None };
-
-    ghost faults = { λ _. 0 };
+    ghost state = { λ _. record { contents = None; faults = 0 } };
 
     /// It takes the whole piece.
     fn write(&mut self, piece: &[u8]) -> Result<usize, Failed>

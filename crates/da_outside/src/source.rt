@@ -1,8 +1,9 @@
-ghost use Rattle.std.specs.Prelude.{◌≡◌, List, [], ℕ, Option, Some, is_err, length, min, Ok, Err, IfOk};
+ghost use Rattle.std.specs.Prelude.{◌≡◌, Some, is_err, length, min, Ok, IfOk};
 ghost use Rattle.std.specs.Io.{ReadsAtMost};
 ghost use Rattle.std.specs.Io.KnownBytes.{ReadConsumes};
 ghost use Rattle.da_outside.specs.Calls.{called, fails_next, no_calls};
 ghost use Rattle.da_outside.specs.Causes.{HasCause};
+ghost use Rattle.da_outside.specs.Source.{SourceState, mem_source};
 
 use crate::Failed;
 use crate::calls::Calls;
@@ -11,18 +12,15 @@ use std::marker::Model;
 
 /// Bytes that come in, as those of a connection or of standard input.
 pub trait Source {
-    /// The bytes that it has left, where it tells them.
-    ghost left: { Self → Option (List ℕ) };
-
-    /// How often it failed.
-    ghost faults: { Self → ℕ };
+    /// What it tells: the bytes that it has left, and how often it failed.
+    ghost state: { Self → SourceState };
 
     /// Reads the next bytes into the front of `buf`, and answers how many these are. For a buffer that isn't empty,
     /// 0 is the end. A call that fails reads nothing.
     fn read(&mut self, buf: &mut [u8]) -> Result<usize, Failed>
         ensures bound { ReadsAtMost result buf.new }
-        ensures bytes { ReadConsumes (left self.old) (left self.new) result buf.new }
-        ensures cause { HasCause (faults self.old) (faults self.new) result };
+        ensures bytes { ReadConsumes (state self.old).left (state self.new).left result buf.new }
+        ensures cause { HasCause (state self.old).faults (state self.new).faults result };
 }
 
 /// A source of these bytes, some calls of which fail.
@@ -33,9 +31,9 @@ pub struct MemSource {
 }
 
 impl Model for MemSource {
-    ghost use Rattle.da_outside.specs.Source.{SourceState};
+    ghost use Rattle.da_outside.specs.Source.{MemSourceState};
 
-    ghost Value = { SourceState };
+    ghost Value = { MemSourceState };
 
     ghost view = { λ source. record { bytes = source.rest; calls = source.calls } };
 }
@@ -53,9 +51,7 @@ impl MemSource {
 }
 
 impl Source for MemSource {
-    ghost left = { λ source. Some source.bytes };
-
-    ghost faults = { λ source. source.calls.faults };
+    ghost state = { mem_source };
 
     /// It reads as many bytes as fit, and fails exactly where `fail` holds the call's number.
     fn read(&mut self, buf: &mut [u8]) -> Result<usize, Failed>
@@ -101,9 +97,7 @@ impl SoundSource {
 }
 
 impl Source for SoundSource {
-    ghost left = { λ bytes. Some bytes };
-
-    ghost faults = { λ _. 0 };
+    ghost state = { λ bytes. record { left = Some bytes; faults = 0 } };
 
     /// It reads as many bytes as fit.
     fn read(&mut self, buf: &mut [u8]) -> Result<usize, Failed>

@@ -1,12 +1,12 @@
-ghost use Rattle.std.specs.Prelude.{◌≡◌, ◌++◌, ◌∷◌, [], List, ℕ, All, Option, None, Some, IfOk, IsErr, IsErrOf, IsOkAnd, IsTrue, MatchOption, OnErr, false, if◌then◌else◌, nat_eq};
+ghost use Rattle.std.specs.Prelude.{◌≡◌, ◌++◌, ◌∷◌, [], List, ℕ, All, None, Some, IfOk, IsErr, IsErrOf, IsOkAnd, IsTrue, false, if◌then◌else◌, nat_eq};
 ghost use Rattle.std.specs.Result.{result_ok};
 ghost use Rattle.da_outside.specs.declared.link.Spoken.{Spoken};
 ghost use Rattle.da_outside.specs.declared.spawner.Spawned.{Spawned};
 ghost use Rattle.da_outside.specs.Calls.{called, fails_next, faulted, no_calls};
-ghost use Rattle.da_outside.specs.Causes.{HasCause, HasGetCause};
-ghost use Rattle.da_outside.specs.Link.{MemReceives, MemSends, Receives, SendRecalls, received};
+ghost use Rattle.da_outside.specs.Causes.{HasGetCause};
+ghost use Rattle.da_outside.specs.Link.{mem_link, MemReceives, MemSends};
 ghost use Rattle.da_outside.specs.Past.{Recalls, Stays, Takes};
-ghost use Rattle.da_outside.specs.Spawner.{HandsBack, IsFresh, IsUnused, SoundStarts, TakesOver, start_kept};
+ghost use Rattle.da_outside.specs.Spawner.{HandsBack, IsFresh, IsUnused, SoundStarts, SpawnerState, TakesOver, mem_spawner, start_kept};
 
 use crate::calls::Calls;
 use crate::first::take_first;
@@ -59,28 +59,23 @@ pub enum Spawned {
 pub trait Spawner {
     type Link: Link;
 
-    /// The links to come, where it tells them.
-    ghost left: { Self → Option (List Self.Link) };
-
-    /// Its failed starts and the talks of the links that came back, in order, where it tells them.
-    ghost past: { Self → Option (List Spawned) };
-
-    /// How often it failed, or a link came back that had failed.
-    ghost faults: { Self → ℕ };
+    /// What it tells: the links to come; its failed starts and the talks of the links that came back; and how often it
+    /// failed, or a link came back that had failed.
+    ghost state: { Self → SpawnerState Self.Link };
 
     /// Starts a worker by its command. It is never `Long`.
     fn start(&mut self, alloc: Global, command: &[Vec<u8>]) -> Result<Self::Link, GetFault>
         ensures never_long { IsErrOf result GetFault.Long → ⊥ }
-        ensures fresh { IfOk result (λ link. IsFresh (Self.Link.faults link) (Self.Link.talk link)) }
-        ensures left { Takes (left self.old) (left self.new) (result_ok result) }
-        ensures past { Recalls (past self.old) (past self.new) (start_kept result) }
-        ensures cause { HasGetCause (faults self.old) (faults self.new) result };
+        ensures fresh { IfOk result (λ link. IsFresh (Self.Link.state link)) }
+        ensures left { Takes (state self.old).left (state self.new).left (result_ok result) }
+        ensures past { Recalls (state self.old).past (state self.new).past (start_kept result) }
+        ensures cause { HasGetCause (state self.old).faults (state self.new).faults result };
 
     /// Ends a link. It takes no memory, since `start` made the room.
     fn finish(&mut self, link: Self::Link)
-        ensures left { Stays (left self.old) (left self.new) }
-        ensures past { HandsBack (past self.old) (past self.new) (Self.Link.talk link) }
-        ensures faults { TakesOver (faults self.old) (faults self.new) (Self.Link.faults link) };
+        ensures left { Stays (state self.old).left (state self.new).left }
+        ensures past { HandsBack (state self.old).past (state self.new).past (Self.Link.state link).talk }
+        ensures faults { TakesOver (state self.old).faults (state self.new).faults (Self.Link.state link).faults };
 }
 
 /// A link that a spawner in memory started, with the room for its talk.
@@ -91,19 +86,15 @@ pub struct StartedLink {
 }
 
 impl Model for StartedLink {
-    ghost use Rattle.da_outside.specs.Link.{LinkState};
+    ghost use Rattle.da_outside.specs.Link.{MemLinkState};
 
-    ghost Value = { LinkState };
+    ghost Value = { MemLinkState };
 
     ghost view = { λ started. started.link };
 }
 
 impl Link for StartedLink {
-    ghost left = { λ link. Some link.bytes };
-
-    ghost talk = { λ link. Some link.talk };
-
-    ghost faults = { λ link. link.calls.faults };
+    ghost state = { mem_link };
 
     fn send(&mut self, line: &[u8]) -> Result<(), Failed>
         ensures { MemSends self.old self.new line.now result }
@@ -128,9 +119,9 @@ pub struct MemSpawner {
 
 impl Model for MemSpawner {
     ghost use Rattle.std.specs.Prelude.{All};
-    ghost use Rattle.da_outside.specs.Spawner.{IsUnused, SpawnerState};
+    ghost use Rattle.da_outside.specs.Spawner.{IsUnused, MemSpawnerState};
 
-    ghost Value = { SpawnerState };
+    ghost Value = { MemSpawnerState };
 
     ghost view = { λ spawner. record { left = spawner.links.items; past = spawner.past; calls = spawner.calls } };
 
@@ -154,17 +145,13 @@ impl MemSpawner {
 impl Spawner for MemSpawner {
     type Link = StartedLink;
 
-    ghost left = { λ spawner. Some spawner.left };
-
-    ghost past = { λ spawner. Some spawner.past };
-
-    ghost faults = { λ spawner. spawner.calls.faults };
+    ghost state = { mem_spawner };
 
     /// It fails exactly where `fail` holds the call's number or no link is left. A call that wants memory changes
     /// nothing, and has no number.
     fn start(&mut self, alloc: Global, _command: &[Vec<u8>]) -> Result<StartedLink, GetFault>
         ensures never_long { IsErrOf result GetFault.Long → ⊥ }
-        ensures fresh { IfOk result (λ link. IsFresh link.calls.faults (Some link.talk)) }
+        ensures fresh { IfOk result IsUnused }
         ensures left { Takes (Some self.old.left) (Some self.new.left) (result_ok result) }
         ensures past { Recalls (Some self.old.past) (Some self.new.past) (start_kept result) }
         ensures cause { HasGetCause self.old.calls.faults self.new.calls.faults result }
@@ -226,11 +213,7 @@ impl SoundSpawner {
 impl Spawner for SoundSpawner {
     type Link = SoundLink;
 
-    ghost left = { λ _. None };
-
-    ghost past = { λ _. None };
-
-    ghost faults = { λ _. 0 };
+    ghost state = { λ _. record { left = None; past = None; faults = 0 } };
 
     fn start(&mut self, alloc: Global, _command: &[Vec<u8>]) -> Result<SoundLink, GetFault>
         ensures { IsOkAnd result (SoundStarts self.old self.new) }
