@@ -1,2 +1,3 @@
+pub mod FileReadLemmas
 mod Lines
 mod Starts

@@ -1,11 +1,13 @@
 pub mod Calls
 pub mod Causes
 pub mod Clock
+pub mod FileReads
 pub mod Files
 pub mod Got
 pub mod Kept
 pub mod Link
 pub mod Listen
+pub mod Outside
 pub mod Past
 pub mod Rand
 pub mod Rest

@@ -1,12 +1,12 @@
 // Writing of whole texts.
 
-ghost use Rattle.da_worker.specs.Output.{Writes};
+ghost use Rattle.da_stream.specs.Output.{Writes};
 
 use da_outside::{Failed, Sink};
 
 /// Writes the whole text. An error is a fault of the sink, which then took a front of the text.
 pub fn write_all<K: Sink>(sink: &mut K, text: &[u8]) -> Result<(), Failed>
-    ensures { Writes text.now (K.contents sink.old) (K.contents sink.new) (K.faults sink.old) (K.faults sink.new) result }
+    ensures { Writes text.now (K.state sink.old) (K.state sink.new) result }
 {
     let mut rest = text;
     while !rest.is_empty() {

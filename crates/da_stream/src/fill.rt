@@ -1,7 +1,7 @@
 // Reads of a source into a cutter of lines.
 
 ghost use Rattle.std.specs.Prelude.{◌≡◌, ◌<◌, ◌≤◌, false, length};
-ghost use Rattle.da_worker.specs.Fill.{Fills, FedBy};
+ghost use Rattle.da_stream.specs.Fill.{Fills, FedBy};
 
 use da_outside::Source;
 use da_tabline::{LineFault, Lines};
@@ -46,7 +46,7 @@ fn feed(lines: &mut Lines, bytes: &[u8]) -> Fill
 /// source's end from more.
 pub fn read_into<S: Source>(source: &mut S, lines: &mut Lines, budget: usize) -> Fill
     requires { lines.old.is_long ≡ false }
-    ensures { Fills (S.left source.old) (S.left source.new) lines.old lines.new budget (S.faults source.old) (S.faults source.new) result }
+    ensures { Fills (S.state source.old) (S.state source.new) lines.old lines.new budget result }
 {
     let mut chunk = [0; CHUNK];
     let buffer = &mut chunk[..budget.max(1).min(CHUNK)];

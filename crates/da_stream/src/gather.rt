@@ -1,6 +1,6 @@
 // Reading of a source to its end.
 
-ghost use Rattle.da_app.specs.Gather.{Gathers};
+ghost use Rattle.da_stream.specs.Gather.{Gathers};
 
 use da_outside::Source;
 use std::alloc::Global;
@@ -21,9 +21,9 @@ pub enum Gathered {
 }
 
 /// The bytes of a source, read to its end. `Long` exactly where they are more than `max`; the source is then read no
-/// further.
+/// further. No more than `max` bytes and 4,096 are read in any case.
 pub fn read_up_to<S: Source>(alloc: Global, source: &mut S, max: usize) -> Gathered
-    ensures { Gathers max (S.left source.old) (S.left source.new) (S.faults source.old) (S.faults source.new) result }
+    ensures { Gathers max (S.state source.old) (S.state source.new) result }
 {
     let mut bytes = Vec::new(alloc);
     let mut chunk = [0; CHUNK];

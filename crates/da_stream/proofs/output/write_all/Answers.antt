@@ -1,7 +1,7 @@
 use Rattle.std.proofs.Common.{◌≡◌, ℕ, ◌-◌, List, ◌++◌, length, take, drop, sym, ap, ◌∙◌, append_assoc, arith}
 use Rattle.std.proofs.lemmas.List.{take-append-drop, take_rest}
 use Rattle.std.proofs.KnownBytes.{Appends-trans}
-use Rattle.da_worker.proofs.output.write_all.Goals as goal
+use Rattle.da_stream.proofs.output.write_all.Goals as goal
 
 -- n bytes more of the rest
 split_more : (text front rest : List ℕ) (n : ℕ) → text ≡ front ++ rest → text ≡ (front ++ take n rest) ++ take (length rest - n) (drop n rest)

@@ -1,0 +1,3 @@
+mod Running
+pub mod BadLineLemmas
+pub mod RunLemmas
