@@ -1,15 +1,15 @@
 -- What a checkpassword program is told, and what its end means.
-use Rattle.std.specs.Prelude.{◌≡◌, ◌≢◌, ◌≤◌, ℕ, Bool, true, false, ◌&&◌, not, List, [], ◌∷◌, ◌++◌, ◌+◌, length, Option, Some, None, nat_le, ◌==◌}
+use Rattle.std.specs.Prelude.{◌≡◌, ◌≢◌, ◌≤◌, ℕ, Bool, true, false, ◌&&◌, not, [], ◌∷◌, ◌++◌, ◌+◌, length, Option, Some, None, nat_le, ◌==◌}
 use Rattle.std.specs.List.{list_all}
 use Rattle.da_base.specs.Words.{Bytes}
 use Rattle.da_fields.specs.FieldList.{Pairs}
 use Rattle.da_fields.specs.declared.answer.Answer.{Answer}
-use Rattle.da_fields.specs.declared.answer.Answer.TheVariants.{Found, Passed, Mismatch, Unknown, Internal}
+use Rattle.da_fields.specs.declared.answer.Answer.TheVariants.{Passed, Mismatch, Unknown, Internal}
 use Rattle.da_fields.specs.declared.answer.Why.TheVariants.{Died, Malformed, Exit as ExitedWith}
 use Rattle.da_outside.specs.Causes.{Rose}
 use Rattle.da_outside.specs.Past.{Gains, Stays, Takes}
+use Rattle.da_outside.specs.Runner.{RunnerState}
 use Rattle.da_outside.specs.declared.runner.Exit.{Exit}
-use Rattle.da_outside.specs.declared.runner.Run.{Run}
 use Rattle.da_query.specs.AnswerLines.{fields_in}
 
 -- ---- what the program is told
@@ -59,20 +59,14 @@ EndMeans (Some exit) answer = ExitMeans exit answer
 
 -- ---- a check
 
--- what a runner tells at one moment: the exits to come, its runs, and how often it failed
-pub record Running : Type 0 where
-  pub left : Option (List Exit)
-  pub past : Option (List Run)
-  pub faults : ℕ
-
 -- nothing was run
-pub record IsIdle (before now : Running) : Type 0 where
+pub record IsIdle (before now : RunnerState) : Type 0 where
   pub left : Stays before.left now.left
   pub past : Stays before.past now.past
   pub faults : now.faults ≡ before.faults
 
 -- the program ran once, and this is what its end means; it has no end only where the runner's faults rose
-pub record RanOnce (program input : Bytes) (before now : Running) (answer : Answer) : Type 0 where
+pub record RanOnce (program input : Bytes) (before now : RunnerState) (answer : Answer) : Type 0 where
   pub end : Option Exit
   pub left : Takes before.left now.left end
   pub past : Gains before.past now.past (record { program = program; input = input; exit = end } ∷ [])
@@ -80,7 +74,7 @@ pub record RanOnce (program input : Bytes) (before now : Running) (answer : Answ
   pub means : EndMeans end answer
 
 -- what can't be told is a mismatch, and nothing is run for it
-abbrev pub Checks : Bytes → Bytes → Bytes → Running → Running → Answer → Type 0
+abbrev pub Checks : Bytes → Bytes → Bytes → RunnerState → RunnerState → Answer → Type 0
 Checks program user password before now answer =
     (can_be_told user password ≡ false → (answer ≡ Mismatch) × IsIdle before now)
     × (can_be_told user password ≡ true → RanOnce program (child_input user password) before now answer)

@@ -23,10 +23,8 @@ pub fn check<R: Runner>(
     password: &[u8],
 ) -> Result<Answer, AllocError>
     ensures checks { IfOk result (λ answer. Checks program.now user.now password.now
-        (record { left = R.left runner.old; past = R.past runner.old; faults = R.faults runner.old })
-        (record { left = R.left runner.new; past = R.past runner.new; faults = R.faults runner.new })
-        answer) }
-    ensures faults { R.faults runner.old ≤ R.faults runner.new }
+        (R.state runner.old) (R.state runner.new) answer) }
+    ensures faults { (R.state runner.old).faults ≤ (R.state runner.new).faults }
 {
     if !can_be_told(user, password) {
         return Ok(Answer::Mismatch);

@@ -1,5 +1,5 @@
 -- The first line that isn't right, by the lines before it; and that it stays the first, whatever follows.
-use Rattle.std.proofs.Common.{◌≡◌, ℕ, suc, ◌+◌, ◌^◌, ◌<◌, ◌≤◌, ◌⊎◌, Bool, true, false, List, [], ◌∷◌, ◌++◌, length, take, eqb, cond, Option, Some, None, refl, sym, ap, ◌∙◌, inl, inr, arith, append-nil, add-one}
+use Rattle.std.proofs.Common.{◌≡◌, ℕ, suc, ◌+◌, ◌<◌, ◌≤◌, ◌⊎◌, Bool, true, false, List, [], ◌∷◌, ◌++◌, length, eqb, cond, Option, Some, None, refl, sym, ap, ◌∙◌, inl, inr, arith, append-nil, add-one}
 use Rattle.std.specs.Prelude.{◌||◌, not}
 use Rattle.std.specs.List.{AllByRecursion}
 use Rattle.std.specs.Io.KnownBytes.{Consumes, IsAtEnd}

@@ -1,5 +1,5 @@
 -- What a run over lines says of what its handler stands for.
-use Rattle.std.proofs.Common.{◌≡◌, ℕ, suc, List, [], ◌∷◌, ap}
+use Rattle.std.proofs.Common.{ℕ, suc, List, [], ◌∷◌, ap}
 use Rattle.std.specs.List.{AllByRecursion}
 use Rattle.da_base.specs.Words.{Bytes}
 use Rattle.da_outside.specs.Source.{SourceState}
@@ -16,27 +16,27 @@ TakesLines-each takes P each n (line ∷ lines) old new all =
     (each n line old all.0 all.1, TakesLines-each takes P each (suc n) lines all.0 new all.2)
 
 -- The relations of a handler often speak of a value that it stands for. So then does the run.
-module _ {H V E : Type 0} (value : H → V) (takes : ℕ → Bytes → V → V → Type 0) (stops : ℕ → Bytes → V → V → E → Type 0) where
+module _ {H V E : Type 0} (new : H) (value : H → V) (takes : ℕ → Bytes → V → V → Type 0) (stops : ℕ → Bytes → V → V → E → Type 0) where
   abbrev takes_at : ℕ → Bytes → H → H → Type 0
-  takes_at n line old new = takes n line (value old) (value new)
+  takes_at n line before after = takes n line (value before) (value after)
 
   abbrev stops_at : ℕ → Bytes → H → H → E → Type 0
-  stops_at n line old new stop = stops n line (value old) (value new) stop
+  stops_at n line before after stop = stops n line (value before) (value after) stop
 
-  TakesLines-value : (n : ℕ) (lines : List Bytes) (old new : H) → TakesLines takes_at n lines old new → TakesLines takes n lines (value old) (value new)
-  TakesLines-value n [] old new all = ap value all
-  TakesLines-value n (line ∷ lines) old new all = (value all.0, all.1, TakesLines-value (suc n) lines all.0 new all.2)
+  lines_value : (n : ℕ) (lines : List Bytes) (before after : H) → TakesLines takes_at n lines before after → TakesLines takes n lines (value before) (value after)
+  lines_value n [] before after all = ap value all
+  lines_value n (line ∷ lines) before after all = (value all.0, all.1, lines_value (suc n) lines all.0 after all.2)
 
-  module _ (max : ℕ) (before after : SourceState) (old new : H) where
-    ends_value : (read : Bytes) (end : LinesEnd E) → Ends takes_at stops_at max before after old new read end
-        → Ends takes stops max before after (value old) (value new) read end
-    ends_value read Done how = (record { ended = how.0.ended; fits = how.0.fits; took = TakesLines-value 1 _ old new how.0.took }, how.1)
-    ends_value read (Cut line) how = (record { ended = how.0.ended; fits = how.0.fits; took = TakesLines-value 1 _ old new how.0.took }, how.1, how.2)
-    ends_value read (TooLong line) how = (TakesLines-value 1 _ old new how.0, how.1, how.2)
-    ends_value read LongInput how = (TakesLines-value 1 _ old new how.0, how.1)
-    ends_value read ReadFault how = (TakesLines-value 1 _ old new how.0, how.1, how.2)
+  module _ (max : ℕ) (input input_after : SourceState) (old : H) where
+    ends_value : (read : Bytes) (end : LinesEnd E) → Ends takes_at stops_at max input input_after old new read end
+        → Ends takes stops max input input_after (value old) (value new) read end
+    ends_value read Done how = (record { ended = how.0.ended; fits = how.0.fits; took = lines_value 1 _ old new how.0.took }, how.1)
+    ends_value read (Cut line) how = (record { ended = how.0.ended; fits = how.0.fits; took = lines_value 1 _ old new how.0.took }, how.1, how.2)
+    ends_value read (TooLong line) how = (lines_value 1 _ old new how.0, how.1, how.2)
+    ends_value read LongInput how = (lines_value 1 _ old new how.0, how.1)
+    ends_value read ReadFault how = (lines_value 1 _ old new how.0, how.1, how.2)
     ends_value read NoMemory how =
-        record { taken = how.taken; others = how.others; are_lines = how.are_lines; took = TakesLines-value 1 how.taken old new how.took }
+        record { taken = how.taken; others = how.others; are_lines = how.are_lines; took = lines_value 1 how.taken old new how.took }
     ends_value read (Stopped line stop) how =
         record {
           taken = how.taken;
@@ -44,10 +44,10 @@ module _ {H V E : Type 0} (value : H → V) (takes : ℕ → Bytes → V → V �
           others = how.others;
           are_lines = how.are_lines;
           mid = value how.mid;
-          took = TakesLines-value 1 how.taken old how.mid how.took;
+          took = lines_value 1 how.taken old how.mid how.took;
           is_number = how.is_number;
           stopped = how.stopped;
         }
 
-    pub runs_value : (end : LinesEnd E) → RunsOver takes_at stops_at max before after old new end → RunsOver takes stops max before after (value old) (value new) end
+    pub runs_value : (end : LinesEnd E) → RunsOver takes_at stops_at max input input_after old new end → RunsOver takes stops max input input_after (value old) (value new) end
     runs_value end run = record { read = run.read; reads = run.reads; few = run.few; ends = ends_value run.read end run.ends }

@@ -10,7 +10,6 @@ use Rattle.da_outside.specs.Source.{SourceState}
 use Rattle.da_tabline.specs.Lines.{Cutter, line_cut, new_cutter, after_feed, after_take}
 use Rattle.da_tabline.proofs.LineLemmas.{cut_from, line_cut-append}
 use Rattle.da_tabline.proofs.StreamLemmas.{after_feed-append}
-use Rattle.da_stream.specs.declared.lines.LinesEnd.{LinesEnd}
 use Rattle.da_stream.specs.declared.lines.LinesEnd.TheVariants.{Done, Cut, TooLong, LongInput, ReadFault, NoMemory, Stopped}
 use Rattle.da_stream.specs.Fill.{FeedsBytes, FindsEnd, FindsFault, ReadsSome, ReadsOne}
 use Rattle.da_stream.specs.LineRuns.{TakesLines, TakesAll, RunsOver, next_line}

@@ -1,6 +1,6 @@
 // Reads of a source into a cutter of lines.
 
-ghost use Rattle.std.specs.Prelude.{◌≡◌, ◌<◌, ◌≤◌, false, length};
+ghost use Rattle.std.specs.Prelude.{◌≡◌, ◌<◌, false};
 ghost use Rattle.da_stream.specs.Fill.{Fills, FedBy};
 
 use da_outside::Source;

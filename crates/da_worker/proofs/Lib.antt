@@ -1,4 +1,4 @@
-pub mod PieceLemmas
 pub mod AnsweredLemmas
-pub mod Running
+pub mod AnsweredLines
 pub mod Complete
+mod PieceLemmas

@@ -1,10 +1,8 @@
--- A done_query of a worker: a query, what was read for it, and the line that it is answered with.
-use Rattle.std.specs.Prelude.{◌≡◌, ◌<◌, ◌≤◌, ⊤, ℕ, ◌+◌, ◌-◌, ◌^◌, min, List, [], ◌∷◌, ◌++◌, length, map, Option, Some, None, option_to_list, IfSome, if◌then◌else◌, codes, decimal}
+-- An answered query of a worker: a query, what was read for it, and the line that it is answered with.
+use Rattle.std.specs.Prelude.{◌≡◌, ◌<◌, ◌≤◌, ⊤, ℕ, ◌+◌, ◌-◌, List, [], ◌∷◌, ◌++◌, length, map, Option, Some, None, option_to_list, IfSome, if◌then◌else◌, codes, decimal}
 use Rattle.std.specs.List.{flat_map}
-use Rattle.da_base.specs.Words.{Bytes, is_empty, nth, count_where}
+use Rattle.da_base.specs.Words.{Bytes, is_empty, nth}
 use Rattle.da_outside.specs.Files.{File, bytes_at}
-use Rattle.da_outside.specs.Got.{is_fault}
-use Rattle.da_outside.specs.Past.{Gains}
 use Rattle.da_outside.specs.declared.faults.Got.{Got}
 use Rattle.da_outside.specs.declared.faults.Got.TheVariants.{Given, TooLong, Fault}
 use Rattle.da_outside.specs.declared.files.FileRead.{FileRead}
@@ -31,7 +29,7 @@ path_for pass users Check db = None
 abbrev pub path_of : List Bytes → List Bytes → Query → Option Bytes
 path_of pass users query = path_for pass users query.kind query.db
 
--- ---- a done_query
+-- ---- an answered query
 
 -- a query, and the read of its file, where it has one
 pub record AnsweredQuery : Type 0 where
@@ -54,16 +52,17 @@ line_by_read query (Some read) = line_by query read.got
 
 -- the line of the answer, with its LF
 unfoldable pub answered_text : AnsweredQuery → Bytes
-answered_text done_query = line_by_read done_query.query done_query.read ++ 10 ∷ []
+answered_text one = line_by_read one.query one.read ++ 10 ∷ []
 
+-- the lines of the answers, what was asked, and what was read for it
 abbrev pub texts : List AnsweredQuery → Bytes
-texts done_queries = flat_map answered_text done_queries
+texts answered = flat_map answered_text answered
 
 abbrev pub queries_of : List AnsweredQuery → List Query
-queries_of done_queries = map (λ done_query. done_query.query) done_queries
+queries_of answered = map (λ one. one.query) answered
 
 abbrev pub reads_of : List AnsweredQuery → List FileRead
-reads_of done_queries = flat_map (λ done_query. option_to_list done_query.read) done_queries
+reads_of answered = flat_map (λ one. option_to_list one.read) answered
 
 -- ---- what was read for it
 
@@ -81,22 +80,4 @@ IsReadOf held (Some path) None = ⊥
 IsReadOf held (Some path) (Some read) = (read.path ≡ path) × GotGives held path read.got
 
 abbrev pub IsAnsweredQuery : List Bytes → List Bytes → Option (List File) → AnsweredQuery → Type 0
-IsAnsweredQuery pass users held done_query = IsReadOf held (path_of pass users done_query.query) done_query.read
-
--- ---- what files tell
-
--- at one moment: the files that they hold, the reads made, and how often they failed
-pub record Told : Type 0 where
-  pub held : Option (List File)
-  pub past : Option (List FileRead)
-  pub faults : ℕ
-
--- a count of faults went up by so many, or stands at its last value
-abbrev pub RoseBy : ℕ → ℕ → ℕ → Type 0
-RoseBy before now n = min (before + n) (2 ^ 64 - 1) ≤ now
-
--- these reads were made, in order, and the count rose by at least as many as failed
-pub record ReadsFiles (before now : Told) (reads : List FileRead) : Type 0 where
-  pub held : now.held ≡ before.held
-  pub past : Gains before.past now.past reads
-  pub faults : RoseBy before.faults now.faults (count_where (λ read. is_fault read.got) reads)
+IsAnsweredQuery pass users held one = IsReadOf held (path_of pass users one.query) one.read

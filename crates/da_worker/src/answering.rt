@@ -1,16 +1,15 @@
 // The answer to one line of input.
 
-ghost use Rattle.std.specs.Prelude.{◌≡◌, ◌++◌, ◌∷◌, [], IfOk, option_copied, decimal};
+ghost use Rattle.std.specs.Prelude.{◌≡◌, ◌++◌, ◌∷◌, [], IfOk, option_copied};
 ghost use Rattle.da_base.specs.Words.{nth};
-ghost use Rattle.da_tabline.specs.Escapes.{spelled};
-ghost use Rattle.da_worker.specs.AnsweredQueries.{path_in, path_of, path_for, fail_line};
-ghost use Rattle.da_worker.specs.Answering.{ReadsFor, AnswersLine, reading_line};
+ghost use Rattle.da_worker.specs.AnsweredQueries.{path_in, path_for, fail_line};
+ghost use Rattle.da_worker.specs.Answering.{ReadsFor, Answers, AnswersLine, StopsAtLine, reading_line};
 
-use crate::output::write_all;
 use crate::passwd::row;
 use da_fields::{Query, QueryKind, Text};
 use da_outside::{Files, GetFault, Sink};
 use da_query::{print_answer, read_query};
+use da_stream::{LineHandler, write_all};
 use da_tabline::{escape, push_field};
 use std::alloc::{AllocError, Global};
 
@@ -30,11 +29,9 @@ pub(crate) enum Reading {
     Failed,
 }
 
-/// How the answer to one line ended.
+/// Why a line ends the run.
 #[derive(Clone, Copy, Drop)]
-pub(crate) enum LineEnd {
-    /// It is a query, and its answer was written.
-    Answered,
+pub(crate) enum LineStop {
     /// It is no query.
     NotQuery,
     /// The output failed.
@@ -71,10 +68,7 @@ fn read_file<F: Files>(
     path: Option<&[u8]>,
     files: &mut F,
 ) -> Result<Reading, AllocError>
-    ensures { ReadsFor (option_copied path.entry)
-        (record { held = F.held files.old; past = F.past files.old; faults = F.faults files.old })
-        (record { held = F.held files.new; past = F.past files.new; faults = F.faults files.new })
-        result }
+    ensures { ReadsFor (option_copied path.entry) (F.state files.old) (F.state files.new) result }
 {
     let Some(path) = path else {
         return Ok(Reading::NoFile);
@@ -120,34 +114,67 @@ fn reading_text(alloc: Global, query: &Query, reading: &Reading) -> Result<Vec<u
     Ok(text)
 }
 
-/// Answers the query that the line spells. `pass` and `users` have the path of each database's file, or the empty text.
-pub(crate) fn answer_line<F: Files, K: Sink>(
+/// What answers the queries of lines. `pass` and `users` have the path of each database's file, or the empty text.
+#[derive(Drop)]
+pub(crate) struct Answerer<'a, F, K> {
+    pub(crate) alloc: Global,
+    pub(crate) pass: &'a [Text],
+    pub(crate) users: &'a [Text],
+    pub(crate) files: &'a mut F,
+    pub(crate) output: &'a mut K,
+}
+
+impl<'a, F: Files, K: Sink> LineHandler for Answerer<'a, F, K> {
+    type Stop = LineStop;
+
+    ghost same = { λ old new. (new.files.ghost_name ≡ old.files.ghost_name) × (new.output.ghost_name ≡ old.output.ghost_name) };
+
+    ghost takes = { λ n line old new. AnswersLine line
+        (record { pass = old.pass.now; users = old.users.now; files = F.state old.files.now; output = K.state old.output.now })
+        (record { pass = new.pass.now; users = new.users.now; files = F.state new.files.now; output = K.state new.output.now }) };
+
+    ghost stops = { λ n line old new stop. StopsAtLine line
+        (record { pass = old.pass.now; users = old.users.now; files = F.state old.files.now; output = K.state old.output.now })
+        (record { pass = new.pass.now; users = new.users.now; files = F.state new.files.now; output = K.state new.output.now })
+        stop };
+
+    ghost use Rattle.std.proofs.Common.{rules};
+
+    ghost same_as_itself = { λ x. Prim.search rules };
+
+    ghost same_further = { λ x y z one two. Prim.search rules };
+
+    /// Answers the query that the line spells.
+    fn take(&mut self, _number: u64, line: &[u8]) -> Result<(), LineStop> {
+        let query = match read_query(self.alloc, line) {
+            Ok(Some(query)) => query,
+            Ok(None) => return Err(LineStop::NotQuery),
+            Err(_) => return Err(LineStop::NoMemory),
+        };
+        let path = path_for(self.pass, self.users, query.kind, query.db);
+        answer(self.alloc, &query, path, self.files, self.output)
+    }
+}
+
+/// Answers a query by the file at this path, where it has one.
+fn answer<F: Files, K: Sink>(
     alloc: Global,
-    pass: &[Text],
-    users: &[Text],
-    line: &[u8],
+    query: &Query,
+    path: Option<&[u8]>,
     files: &mut F,
-    sink: &mut K,
-) -> LineEnd
-    ensures { AnswersLine pass.now users.now line.now
-        (record { held = F.held files.old; past = F.past files.old; faults = F.faults files.old })
-        (record { held = F.held files.new; past = F.past files.new; faults = F.faults files.new })
-        (K.contents sink.old) (K.contents sink.new) (K.faults sink.old) (K.faults sink.new) result }
+    output: &mut K,
+) -> Result<(), LineStop>
+    ensures { Answers (option_copied path.entry) query.now (F.state files.old) (F.state files.new)
+        (K.state output.old) (K.state output.new) result }
 {
-    let query = match read_query(alloc, line) {
-        Ok(Some(query)) => query,
-        Ok(None) => return LineEnd::NotQuery,
-        Err(_) => return LineEnd::NoMemory,
-    };
-    let path = path_for(pass, users, query.kind, query.db);
     let Ok(reading) = read_file(alloc, path, files) else {
-        return LineEnd::NoMemory;
+        return Err(LineStop::NoMemory);
     };
-    let Ok(text) = reading_text(alloc, &query, &reading) else {
-        return LineEnd::NoMemory;
+    let Ok(text) = reading_text(alloc, query, &reading) else {
+        return Err(LineStop::NoMemory);
     };
-    match write_all(sink, &text) {
-        Ok(()) => LineEnd::Answered,
-        Err(_) => LineEnd::WriteFault,
+    match write_all(output, &text) {
+        Ok(()) => Ok(()),
+        Err(_) => Err(LineStop::WriteFault),
     }
 }

@@ -4,14 +4,10 @@
 #![tactic(auto)]
 
 mod answering;
-mod fill;
 mod laws;
-mod output;
 mod passwd;
 mod worker;
 
-pub use fill::{Fill, read_into};
 pub use laws::a_good_input_is_answered;
-pub use output::write_all;
 pub use passwd::row;
 pub use worker::{WorkerStatus, answer_all};

@@ -1,19 +1,15 @@
 // The run of a worker.
 
+ghost use Rattle.std.specs.Prelude.{◌≡◌};
 ghost use Rattle.da_worker.specs.Run.{Ran};
+ghost use Rattle.da_worker.specs.Statuses.{status_of_end, status_of_stop};
 
-use crate::answering::{LineEnd, answer_line};
-use crate::fill::{Fill, read_into};
+use crate::answering::{Answerer, LineStop};
 use da_fields::Text;
 use da_outside::{Files, Sink, Source};
-use da_tabline::Lines;
+use da_stream::{LinesEnd, run_lines};
+use da_tabline::LONGEST_LINE;
 use std::alloc::Global;
-
-/// The most bytes that a line of the input may have.
-const LINE_MAX: usize = 8192;
-
-/// The most bytes that an input may have.
-const INPUT_MAX: usize = 1_073_741_824;
 
 /// How the run of a worker ended.
 #[derive(Clone, Copy, Drop, PartialEq, Eq)]
@@ -32,7 +28,7 @@ pub enum WorkerStatus {
     NoMemory,
 }
 
-/// Answers each query line of the source with one line to the sink, in order, before the next bytes are read. `pass` and
+/// Answers each query line of the input with one line of the output, in order, before the next bytes are read. `pass` and
 /// `users` have one text for each database of their kind, in order: the path of its passwd-file, or the empty text where
 /// it has none.
 ///
@@ -42,50 +38,64 @@ pub enum WorkerStatus {
 /// these ends the run.
 ///
 /// The run ends with the first place of the input that ends it, after the answers to all queries before it. A fault of
-/// the sink and want of memory end it after a front of the answers.
-pub fn answer_all<F: Files, S: Source, K: Sink>(
+/// the output and want of memory end it after a front of the answers.
+pub fn answer_all<'a, F: Files, S: Source, K: Sink>(
     alloc: Global,
-    pass: &[Text],
-    users: &[Text],
-    files: &mut F,
-    source: &mut S,
-    sink: &mut K,
+    pass: &'a [Text],
+    users: &'a [Text],
+    files: &'a mut F,
+    input: &mut S,
+    output: &'a mut K,
 ) -> WorkerStatus
     ensures { Ran pass.now users.now
-        (record { held = F.held files.old; past = F.past files.old; faults = F.faults files.old })
-        (record { held = F.held files.new; past = F.past files.new; faults = F.faults files.new })
-        (S.left source.old) (S.left source.new) (K.contents sink.old) (K.contents sink.new)
-        (S.faults source.old) (S.faults source.new) (K.faults sink.old) (K.faults sink.new) result }
+        (record { files = F.state files.old; input = S.state input.old; output = K.state output.old })
+        (record { files = F.state files.new; input = S.state input.new; output = K.state output.new })
+        result }
 {
-    let mut lines = Lines::new(alloc, LINE_MAX);
-    let mut number = 1;
-    let mut budget = INPUT_MAX;
-    let mut is_long = false;
-    'read: loop {
-        'lines: while let Some(line) = lines.next() {
-            match answer_line(alloc, pass, users, &line, files, sink) {
-                LineEnd::Answered => number += 1,
-                LineEnd::NotQuery => return WorkerStatus::BadInput { line: number },
-                LineEnd::WriteFault => return WorkerStatus::WriteFault,
-                LineEnd::NoMemory => return WorkerStatus::NoMemory,
-            }
-        }
-        if is_long {
-            return WorkerStatus::BadInput { line: number };
-        }
-        match read_into(source, &mut lines, budget) {
-            Fill::Fed {
-                count,
-                is_long: long,
-            } => {
-                budget -= count;
-                is_long = long;
-            }
-            Fill::End => return WorkerStatus::Done,
-            Fill::Cut => return WorkerStatus::BadInput { line: number },
-            Fill::Much => return WorkerStatus::LongInput,
-            Fill::ReadFault => return WorkerStatus::ReadFault,
-            Fill::NoMemory => return WorkerStatus::NoMemory,
-        }
+    let mut answerer = Answerer {
+        alloc,
+        pass,
+        users,
+        files,
+        output,
+    };
+    answer_lines(alloc, input, &mut answerer)
+}
+
+fn answer_lines<S: Source, F: Files, K: Sink>(
+    alloc: Global,
+    input: &mut S,
+    answerer: &mut Answerer<'_, F, K>,
+) -> WorkerStatus
+    ensures same_files { answerer.new.files.ghost_name ≡ answerer.old.files.ghost_name }
+    ensures same_output { answerer.new.output.ghost_name ≡ answerer.old.output.ghost_name }
+    ensures ran { Ran answerer.old.pass.now answerer.old.users.now
+        (record { files = F.state answerer.old.files.now; input = S.state input.old; output = K.state answerer.old.output.now })
+        (record { files = F.state answerer.new.files.now; input = S.state input.new; output = K.state answerer.new.output.now })
+        result }
+{
+    status_of_end(run_lines(alloc, LONGEST_LINE, input, answerer))
+}
+
+fn status_of_end(end: LinesEnd<LineStop>) -> WorkerStatus
+    ensures { result ≡ status_of_end end }
+{
+    match end {
+        LinesEnd::Done => WorkerStatus::Done,
+        LinesEnd::Cut { line } | LinesEnd::TooLong { line } => WorkerStatus::BadInput { line },
+        LinesEnd::LongInput => WorkerStatus::LongInput,
+        LinesEnd::ReadFault => WorkerStatus::ReadFault,
+        LinesEnd::NoMemory => WorkerStatus::NoMemory,
+        LinesEnd::Stopped { line, stop } => status_of_stop(line, stop),
+    }
+}
+
+fn status_of_stop(line: u64, stop: LineStop) -> WorkerStatus
+    ensures { result ≡ status_of_stop line stop }
+{
+    match stop {
+        LineStop::NotQuery => WorkerStatus::BadInput { line },
+        LineStop::WriteFault => WorkerStatus::WriteFault,
+        LineStop::NoMemory => WorkerStatus::NoMemory,
     }
 }

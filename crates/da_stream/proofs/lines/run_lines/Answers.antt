@@ -1,9 +1,7 @@
-use Rattle.std.proofs.Common.{length, List, ◌∷◌, sym, ap, ◌∙◌, arith}
+use Rattle.std.proofs.Common.{◌∷◌, sym, ap, ◌∙◌, arith}
 use Rattle.da_base.specs.Words.{Bytes}
 use Rattle.da_tabline.specs.Lines.{Cutter}
-use Rattle.da_stream.proofs.BadLineLemmas.{no_bad_line}
-use Rattle.da_stream.proofs.RunLemmas.{runs_value}
-use Rattle.da_stream.proofs.Running.{started, running_fed, running_taken, idle, few, ends_done, ends_cut, ends_long, ends_read, ends_much, ends_stopped, ends_unfed}
+use Rattle.da_stream.proofs.Running.{running_fed, running_taken, idle, few, ends_much, ends_unfed}
 use Rattle.da_stream.proofs.lines.run_lines.Goals as goal
 
 pub overflow_add-number : goal.overflow_add-number
