@@ -1,7 +1,4 @@
-pub mod ReplyLemmas
-pub mod Running
-pub mod Complete
-pub mod DriveLemmas
-pub mod CheckLemmas
-pub mod PwLemmas
-pub mod WorkerLemmas
+mod Complete
+mod DriveLemmas
+mod PlayedLines
+mod ReplyLemmas

@@ -1,6 +1,5 @@
 -- Lemmas on the reply to an event, by what a step of the server answers.
 use Rattle.std.proofs.Common.{◌≡◌, ℕ, Bool, true, false, List, ◌∷◌, cond, Option, Some, None, Result, Ok, Err, refl, sym, ap, ◌∙◌, subst, inl, inr}
-use Rattle.std.proofs.KnownBytes.{Keeps-refl}
 use Rattle.std.proofs.lemmas.Bool.{cases_Bool}
 use Rattle.std.proofs.lemmas.Option.{same_Some}
 use Rattle.da_base.specs.Words.{Bytes, option_or_else}
@@ -17,13 +16,12 @@ use Rattle.da_play.specs.Legal.{is_full, entry_moment, late_from}
 use Rattle.da_tables.specs.Connections.{open_count}
 use Rattle.da_tables.specs.Queries.{is_running_in}
 use Rattle.da_play.specs.Play.{Event, unless, late_refusal, input_refusal, refusal, next_entry, outputs, reply, history_after}
-use Rattle.da_play.specs.Served.{Served}
 use Rattle.da_play.specs.Steps.{IsRefused, IsEntered, Steps}
 use Rattle.da_script.specs.Events.{event_of}
 use Rattle.da_script.specs.Replies.{reply_text, outputs_text, refused_text}
-use Rattle.da_app.specs.declared.play.LineEnd.{LineEnd}
-use Rattle.da_app.specs.declared.play.LineEnd.TheVariants.{Played, NotEvent, Full as TurnFull, WriteFault, NoMemory as TurnNoMemory}
-use Rattle.da_app.specs.Play.{Plays, WritesReply, ending}
+use Rattle.da_app.specs.declared.play.LineStop.{LineStop}
+use Rattle.da_app.specs.declared.play.LineStop.TheVariants.{NotEvent, Full as LineFull, WriteFault as LineWriteFault, NoMemory as LineNoMemory}
+use Rattle.da_app.specs.Play.{Plays, Stage, StopsAtEvent, WritesReply, ending}
 
 -- ---- a full history is told where the history is full, and nowhere else
 
@@ -108,55 +106,55 @@ refused_keeps s h m input refused e =
 
 -- ---- the play of a line
 
-written_plays : (n : ℕ) (line : Bytes) (event : Event) (old new : Served) (before now : Option Bytes) (f g : ℕ) (turn : LineEnd) → event_of line ≡ Some event
-    → is_full old.settings old.history ≡ false
-    → new ≡ record old { history = history_after old.settings old.history event.0 event.1 }
-    → WritesReply (reply_text n (reply old.settings old.history event.0 event.1)) before now f g turn → Plays n line old new before now f g turn
-written_plays n line event old new before now f g Played spelled room goes_on writes =
-    (record { event = event; spelled = spelled; has_room = room; writes = writes.0; goes_on = goes_on }, writes.1)
-written_plays n line event old new before now f g NotEvent spelled room goes_on writes = absurd writes
-written_plays n line event old new before now f g TurnFull spelled room goes_on writes = absurd writes
-written_plays n line event old new before now f g WriteFault spelled room goes_on writes = record { event = event; spelled = spelled; front = writes }
-written_plays n line event old new before now f g TurnNoMemory spelled room goes_on writes = writes
+module _ (n : ℕ) (line : Bytes) (event : Event) (old new : Stage) (spelled : event_of line ≡ Some event) where
+  abbrev s : Settings
+  s = old.server.settings
 
--- an event that is an entry
-pub entered_plays : (n : ℕ) (line : Bytes) (event : Event) (old new : Served) (before now : Option Bytes) (f g : ℕ) (turn : LineEnd) (out : Outputs) → event_of line ≡ Some event
-    → IsEntered old new event.0 event.1 out → WritesReply (outputs_text n out) before now f g turn → Plays n line old new before now f g turn
-entered_plays n line event old new before now f g turn out spelled enters writes =
-    written_plays n line event old new before now f g turn spelled
-    (other_has_room old.settings old.history event.0 event.1 (Ok out) tt enters.replies) enters.goes_on
-    (subst (λ r. WritesReply (reply_text n r) before now f g turn) (sym enters.replies) writes)
+  abbrev h : List Entry
+  h = old.server.history
 
--- an event that is refused, and the refusal is printed
-module _ (n : ℕ) (line : Bytes) (event : Event) (old new : Served) (before now : Option Bytes) (f g : ℕ) (turn : LineEnd) (spelled : event_of line ≡ Some event) where
-  told_plays : (refused : Refused) → is_other (Err refused) → IsRefused old new event.0 event.1 refused → WritesReply (refused_text n refused) before now f g turn
-      → Plays n line old new before now f g turn
-  told_plays refused other reported writes =
-      written_plays n line event old new before now f g turn spelled
-      (other_has_room old.settings old.history event.0 event.1 (Err refused) other reported.refuses)
-      (reported.stays ∙ ap (λ (h : List Entry). record old { history = h }) (sym (refused_keeps old.settings old.history event.0 event.1 refused reported.refuses)))
-      (subst (λ r. WritesReply (reply_text n r) before now f g turn) (sym reported.refuses) writes)
+  written_plays : (result : Result (Unit {0}) LineStop) → is_full s h ≡ false → new.server ≡ record old.server { history = history_after s h event.0 event.1 }
+      → WritesReply (reply_text n (reply s h event.0 event.1)) old.output new.output result → Plays n line old new result
+  written_plays (Ok done) room goes_on writes = record { event = event; spelled = spelled; has_room = room; writes = writes; goes_on = goes_on }
+  written_plays (Err NotEvent) room goes_on writes = absurd writes
+  written_plays (Err LineFull) room goes_on writes = absurd writes
+  written_plays (Err LineWriteFault) room goes_on writes = record { event = event; spelled = spelled; front = writes }
+  written_plays (Err LineNoMemory) room goes_on writes = writes
 
-  pub refused_plays : (refused : Refused) → ending refused ≡ None → Steps old new event.0 event.1 (Err refused) → WritesReply (refused_text n refused) before now f g turn
-      → Plays n line old new before now f g turn
-  refused_plays HistoryFull goes reported writes = cc
-  refused_plays (ConnLimit count) goes reported writes = told_plays (ConnLimit count) tt reported writes
-  refused_plays (NoConn conn) goes reported writes = told_plays (NoConn conn) tt reported writes
-  refused_plays NothingWaits goes reported writes = told_plays NothingWaits tt reported writes
-  refused_plays (NotTaken query) goes reported writes = told_plays (NotTaken query) tt reported writes
-  refused_plays (NotLate query due) goes reported writes = told_plays (NotLate query due) tt reported writes
-  refused_plays NoMemory goes reported writes = cc
+  -- an event that is an entry
+  pub entered_plays : (result : Result (Unit {0}) LineStop) (out : Outputs) → IsEntered old.server new.server event.0 event.1 out
+      → WritesReply (outputs_text n out) old.output new.output result → Plays n line old new result
+  entered_plays result out enters writes =
+      written_plays result (other_has_room s h event.0 event.1 (Ok out) tt enters.replies) enters.goes_on
+      (subst (λ r. WritesReply (reply_text n r) old.output new.output result) (sym enters.replies) writes)
 
--- an event that ends the play at once
-pub ended_plays : (n : ℕ) (line : Bytes) (event : Event) (old new : Served) (now : Option Bytes) (f : ℕ) (turn : LineEnd) (refused : Refused) → event_of line ≡ Some event
-    → ending refused ≡ Some turn → Steps old new event.0 event.1 (Err refused) → Plays n line old new now now f f turn
-ended_plays n line event old new now f turn HistoryFull spelled ends reported =
-    subst (λ (t : LineEnd). Plays n line old new now now f f t) (same_Some _ _ ends)
-    (record { event = event; spelled = spelled; full = told_full old.settings old.history event.0 event.1 reported.refuses; keeps = Keeps-refl now })
-ended_plays n line event old new now f turn (ConnLimit count) spelled ends reported = cc
-ended_plays n line event old new now f turn (NoConn conn) spelled ends reported = cc
-ended_plays n line event old new now f turn NothingWaits spelled ends reported = cc
-ended_plays n line event old new now f turn (NotTaken query) spelled ends reported = cc
-ended_plays n line event old new now f turn (NotLate query due) spelled ends reported = cc
-ended_plays n line event old new now f turn NoMemory spelled ends reported =
-    subst (λ (t : LineEnd). Plays n line old new now now f f t) (same_Some _ _ ends) (Keeps-refl now)
+  -- an event that is refused, and the refusal is printed
+  told_plays : (result : Result (Unit {0}) LineStop) (refused : Refused) → is_other (Err refused) → IsRefused old.server new.server event.0 event.1 refused
+      → WritesReply (refused_text n refused) old.output new.output result → Plays n line old new result
+  told_plays result refused other reported writes =
+      written_plays result (other_has_room s h event.0 event.1 (Err refused) other reported.refuses)
+      (reported.stays ∙ ap (λ (g : List Entry). record old.server { history = g }) (sym (refused_keeps s h event.0 event.1 refused reported.refuses)))
+      (subst (λ r. WritesReply (reply_text n r) old.output new.output result) (sym reported.refuses) writes)
+
+  pub refused_plays : (result : Result (Unit {0}) LineStop) (refused : Refused) → ending refused ≡ None → Steps old.server new.server event.0 event.1 (Err refused)
+      → WritesReply (refused_text n refused) old.output new.output result → Plays n line old new result
+  refused_plays result HistoryFull goes reported writes = cc
+  refused_plays result (ConnLimit count) goes reported writes = told_plays result (ConnLimit count) tt reported writes
+  refused_plays result (NoConn conn) goes reported writes = told_plays result (NoConn conn) tt reported writes
+  refused_plays result NothingWaits goes reported writes = told_plays result NothingWaits tt reported writes
+  refused_plays result (NotTaken query) goes reported writes = told_plays result (NotTaken query) tt reported writes
+  refused_plays result (NotLate query due) goes reported writes = told_plays result (NotLate query due) tt reported writes
+  refused_plays result NoMemory goes reported writes = cc
+
+  -- an event that ends the play at once
+  pub ended_plays : (stop : LineStop) (refused : Refused) → ending refused ≡ Some stop → Steps old.server new.server event.0 event.1 (Err refused)
+      → new.output ≡ old.output → StopsAtEvent n line old new stop
+  ended_plays stop HistoryFull ends reported same =
+      subst (λ (t : LineStop). StopsAtEvent n line old new t) (same_Some _ _ ends)
+      (record { event = event; spelled = spelled; full = told_full s h event.0 event.1 reported.refuses; unwritten = same })
+  ended_plays stop (ConnLimit count) ends reported same = cc
+  ended_plays stop (NoConn conn) ends reported same = cc
+  ended_plays stop NothingWaits ends reported same = cc
+  ended_plays stop (NotTaken query) ends reported same = cc
+  ended_plays stop (NotLate query due) ends reported same = cc
+  ended_plays stop NoMemory ends reported same = subst (λ (t : LineStop). StopsAtEvent n line old new t) (same_Some _ _ ends) same

@@ -1,42 +1,26 @@
 -- What `run_drive` does, by its words, its file and its input.
-use Rattle.std.specs.Prelude.{◌≡◌, ◌≤◌, ⊤, ℕ, ◌^◌, ◌⊎◌, List, [], ◌∷◌, length, Option, Some, None, Ok, Err, IfSome}
-use Rattle.std.specs.Io.KnownBytes.{Keeps}
+use Rattle.std.specs.Prelude.{◌≡◌, ◌≤◌, ⊤, ◌^◌, ◌⊎◌, List, length, Option, Some, None, Ok}
 use Rattle.da_base.specs.Words.{Bytes}
 use Rattle.da_outside.specs.Causes.{Rose}
+use Rattle.da_outside.specs.FileReads.{ReadsNoOther}
 use Rattle.da_outside.specs.Files.{File, bytes_at}
-use Rattle.da_outside.specs.Past.{Stays, Gains}
-use Rattle.da_outside.specs.declared.files.FileRead.{FileRead}
-use Rattle.da_outside.specs.declared.faults.Got.TheVariants.{Fault as GotFault}
+use Rattle.da_outside.specs.Outside.{Outside, IsUntouched}
 use Rattle.da_settings.specs.declared.settings.Settings.{Settings}
-use Rattle.da_app.specs.declared.status.Status.{Status}
-use Rattle.da_app.specs.declared.status.Status.TheVariants.{Done, Usage, NoSettings, NoMemory, BadSettings}
 use Rattle.da_config.specs.SettingsText.{settings_of}
-use Rattle.da_app.specs.Script.{first_bad_at_end, first_full}
+use Rattle.da_stream.specs.BadLines.{first_bad_at_end}
+use Rattle.da_command.specs.declared.status.Status.{Status}
+use Rattle.da_command.specs.declared.status.Status.TheVariants.{Usage, NoSettings, NoMemory, BadSettings}
+use Rattle.da_command.specs.SettingsFile.{HoldsFault, HoldsSettings, PathFails}
+use Rattle.da_command.specs.Statuses.{IsDone}
+use Rattle.da_command.specs.Words.{drive_path}
+use Rattle.da_app.specs.Script.{is_event, first_full}
 use Rattle.da_app.specs.Play.{Ran}
 
--- the outside as it was at one moment: the files held and the reads made, the input left and the output, as far as they
--- are told, and the counts of faults
-pub record Outside : Type 0 where
-  pub held : Option (List File)
-  pub past : Option (List FileRead)
-  pub left : Option Bytes
-  pub contents : Option Bytes
-  pub file_faults : ℕ
-  pub read_faults : ℕ
-  pub write_faults : ℕ
-
--- nothing was read of the input, and nothing was written
-pub record IsUntouched (before now : Outside) : Type 0 where
-  pub reads : Keeps before.left now.left
-  pub writes : Keeps before.contents now.contents
-
 -- the file's text is settings, and the script was played under them
-pub record RunsWith (path : Bytes) (before now : Outside) (status : Status) : Type 0 where
-  pub text : Bytes
+pub record RunsWith (path : Bytes) (before after : Outside) (status : Status) : Type 0 where
   pub settings : Settings
-  pub is_text : IfSome before.held (λ files. text ≡ bytes_at files path)
-  pub is_settings : settings_of text ≡ Ok settings
-  pub ran : Ran settings before.left now.left before.contents now.contents before.read_faults now.read_faults before.write_faults now.write_faults status
+  pub holds : HoldsSettings path before.files after.files settings
+  pub ran : Ran settings before.input after.input before.output after.output status
 
 -- By the path and the status. Nothing else comes.
 --   Usage: exactly where the words are off their form; nothing is read or written.
@@ -44,41 +28,41 @@ pub record RunsWith (path : Bytes) (before now : Outside) (status : Status) : Ty
 --   BadSettings: the file's text has this fault, before any input or output.
 --   NoMemory: before any input or output, or as the script's play says.
 --   The rest: as the script's play says.
+-- No file is read but the one at PATH, and that at most once.
 abbrev pub Drives : Option Bytes → Outside → Outside → Status → Type 0
-Drives None before now Usage = Stays before.past now.past × IsUntouched before now
-Drives None before now _ = ⊥
-Drives (Some path) before now Usage = ⊥
-Drives (Some path) before now NoSettings =
-    Rose before.file_faults now.file_faults × Gains before.past now.past (record { path = path; got = GotFault } ∷ []) × IsUntouched before now
-Drives (Some path) before now (BadSettings fault) =
-    IfSome before.held (λ files. settings_of (bytes_at files path) ≡ Err fault) × IsUntouched before now
-Drives (Some path) before now NoMemory = IsUntouched before now ⊎ RunsWith path before now NoMemory
-Drives (Some path) before now status = RunsWith path before now status
+Drives None before after Usage = after ≡ before
+Drives None before after _ = ⊥
+Drives (Some path) before after Usage = ⊥
+Drives (Some path) before after NoSettings = PathFails path before.files after.files × IsUntouched before after
+Drives (Some path) before after (BadSettings fault) = HoldsFault path before.files after.files fault × IsUntouched before after
+Drives (Some path) before after NoMemory =
+    (ReadsNoOther path before.files after.files × IsUntouched before after) ⊎ RunsWith path before after NoMemory
+Drives (Some path) before after status = RunsWith path before after status
 
 -- ---- completeness
 
 -- a file with settings, an input of at most 1,073,741,824 bytes whose lines are all events, each ended by LF, no event
 -- that meets a full history, and no fault
-pub record IsGood (path : Bytes) (before now : Outside) : Type 0 where
+pub record IsGood (path : Bytes) (before after : Outside) : Type 0 where
   pub files : List File
-  pub held : before.held ≡ Some files
+  pub held : before.files.held ≡ Some files
   pub settings : Settings
   pub is_settings : settings_of (bytes_at files path) ≡ Ok settings
   pub input : Bytes
-  pub left : before.left ≡ Some input
+  pub left : before.input.left ≡ Some input
   pub short : length input ≤ 2 ^ 30
-  pub events : first_bad_at_end input ≡ None
+  pub events : first_bad_at_end is_event 16384 input ≡ None
   pub has_room : first_full settings input ≡ None
-  pub file_sound : Rose before.file_faults now.file_faults → ⊥
-  pub source_sound : Rose before.read_faults now.read_faults → ⊥
-  pub sink_sound : Rose before.write_faults now.write_faults → ⊥
-
-abbrev pub IsDone : Status → Type 0
-IsDone Done = ⊤
-IsDone NoMemory = ⊤
-IsDone _ = ⊥
+  pub files_sound : Rose before.files.faults after.files.faults → ⊥
+  pub input_sound : Rose before.input.faults after.input.faults → ⊥
+  pub output_sound : Rose before.output.faults after.output.faults → ⊥
 
 -- then the run is done, or wants memory
 abbrev pub Completes : Option Bytes → Outside → Outside → Status → Type 0
-Completes None before now status = ⊤
-Completes (Some path) before now status = IsGood path before now → IsDone status
+Completes None before after status = ⊤
+Completes (Some path) before after status = IsGood path before after → IsDone status
+
+-- the whole of it, by the words
+pub record RunsDrive (words : List Bytes) (before after : Outside) (status : Status) : Type 0 where
+  pub drives : Drives (drive_path words) before after status
+  pub complete : Completes (drive_path words) before after status

@@ -1,11 +1,3 @@
-pub mod Words
 pub mod Script
 pub mod Play
 pub mod Drive
-pub mod Statuses
-pub mod Commands
-pub mod SettingsFile
-pub mod Check
-pub mod Gather
-pub mod Pw
-pub mod Worker

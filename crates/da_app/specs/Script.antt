@@ -1,32 +1,17 @@
--- A script as a text: its first line that is no event, its first event that meets a full history, and its output.
-use Rattle.std.specs.Prelude.{ℕ, suc, Bool, ◌||◌, not, List, [], ◌∷◌, length, Option, Some, None, if◌then◌else◌, is_some}
-use Rattle.da_base.specs.Words.{Bytes, is_empty}
+-- A script as a text: its lines that are right, its first event that meets a full history, and its output.
+use Rattle.std.specs.Prelude.{ℕ, suc, Bool, List, [], ◌∷◌, Option, Some, None, if◌then◌else◌, is_some}
+use Rattle.da_base.specs.Words.{Bytes}
 use Rattle.da_settings.specs.declared.settings.Settings.{Settings}
 use Rattle.da_play.specs.declared.input.Entry.{Entry}
 use Rattle.da_play.specs.Legal.{is_full}
 use Rattle.da_play.specs.Play.{Event, history_after, play}
 use Rattle.da_script.specs.Events.{event_of}
-use Rattle.da_script.specs.Scripts.{script_cut, events}
+use Rattle.da_script.specs.Scripts.{events}
 use Rattle.da_script.specs.Replies.{replies_text}
 
--- the number of the first line that is no event, where the first of these lines has the number n
-abbrev pub bad_from : ℕ → List Bytes → Option ℕ
-bad_from n [] = None
-bad_from n (text ∷ texts) = if is_some (event_of text) then bad_from (suc n) texts else Some n
-
-abbrev pub or_bad : Option ℕ → Bool → ℕ → Option ℕ
-or_bad (Some n) is_bad next = Some n
-or_bad None is_bad next = if is_bad then Some next else None
-
--- the number of the first line that is no event, whatever follows: a whole line, or one that is too long
-abbrev pub first_bad : Bytes → Option ℕ
-first_bad bytes = or_bad (bad_from 1 (script_cut bytes).lines) (script_cut bytes).is_long (suc (length (script_cut bytes).lines))
-
--- and where nothing follows: a last line without LF is none either
-abbrev pub first_bad_at_end : Bytes → Option ℕ
-first_bad_at_end bytes =
-    or_bad (bad_from 1 (script_cut bytes).lines) ((script_cut bytes).is_long || not (is_empty (script_cut bytes).rest))
-    (suc (length (script_cut bytes).lines))
+-- a line that is right spells an event
+abbrev pub is_event : Bytes → Bool
+is_event text = is_some (event_of text)
 
 -- the number of the first event that meets a full history, where the first of these events has the number n and comes
 -- after this history

@@ -1,13 +1,10 @@
 // The command `drive`.
 
-ghost use Rattle.std.specs.Prelude.{◌≡◌, map, string_bytes, Some};
-ghost use Rattle.da_app.specs.Words.{drive_path};
-ghost use Rattle.da_app.specs.Drive.{Drives, Completes};
+ghost use Rattle.std.specs.Prelude.{map, string_bytes};
+ghost use Rattle.da_app.specs.Drive.{RunsDrive};
 
 use crate::play::play_script;
-use crate::settings_file::read_settings;
-use crate::status::Status;
-use crate::words::path_of_drive;
+use da_command::{Status, path_of_drive, read_settings};
 use da_outside::{Files, Sink, Source};
 use std::alloc::Global;
 
@@ -21,33 +18,22 @@ pub fn run_drive<S: Source, K: Sink, F: Files>(
     input: &mut S,
     output: &mut K,
 ) -> Status
-    ensures drives { Drives (drive_path (map string_bytes words.now))
-        (record { held = F.held files.old; past = F.past files.old; left = S.left input.old; contents = K.contents output.old; file_faults = F.faults files.old; read_faults = S.faults input.old; write_faults = K.faults output.old })
-        (record { held = F.held files.new; past = F.past files.new; left = S.left input.new; contents = K.contents output.new; file_faults = F.faults files.new; read_faults = S.faults input.new; write_faults = K.faults output.new })
-        result }
-    ensures complete { Completes (drive_path (map string_bytes words.now))
-        (record { held = F.held files.old; past = F.past files.old; left = S.left input.old; contents = K.contents output.old; file_faults = F.faults files.old; read_faults = S.faults input.old; write_faults = K.faults output.old })
-        (record { held = F.held files.new; past = F.past files.new; left = S.left input.new; contents = K.contents output.new; file_faults = F.faults files.new; read_faults = S.faults input.new; write_faults = K.faults output.new })
-        result }
-{
-    match path_of_drive(words) {
-        Some(path) => drive_at(alloc, path, files, input, output),
-        None => Status::Usage,
-    }
-}
-
-fn drive_at<S: Source, K: Sink, F: Files>(
-    alloc: Global,
-    path: &[u8],
-    files: &mut F,
-    input: &mut S,
-    output: &mut K,
-) -> Status
-    ensures { Drives (Some path.now)
-        (record { held = F.held files.old; past = F.past files.old; left = S.left input.old; contents = K.contents output.old; file_faults = F.faults files.old; read_faults = S.faults input.old; write_faults = K.faults output.old })
-        (record { held = F.held files.new; past = F.past files.new; left = S.left input.new; contents = K.contents output.new; file_faults = F.faults files.new; read_faults = S.faults input.new; write_faults = K.faults output.new })
+    ensures { RunsDrive (map string_bytes words.now)
+        (record {
+          files = F.state files.old;
+          input = S.state input.old;
+          output = K.state output.old;
+        })
+        (record {
+          files = F.state files.new;
+          input = S.state input.new;
+          output = K.state output.new;
+        })
         result }
 {
+    let Some(path) = path_of_drive(words) else {
+        return Status::Usage;
+    };
     match read_settings(alloc, path, files) {
         Ok(settings) => play_script(alloc, settings, input, output),
         Err(status) => status,

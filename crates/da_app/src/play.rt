@@ -1,27 +1,19 @@
 // The play of a script.
 
-ghost use Rattle.std.specs.Prelude.{◌≡◌, ℕ, List, IfOk};
-ghost use Rattle.da_app.specs.Play.{Plays, Ran, WritesReply, ending};
+ghost use Rattle.std.specs.Prelude.{◌≡◌, ℕ, [], List, IfOk};
+ghost use Rattle.da_app.specs.Play.{Plays, Ran, WritesReply, ending, status_of_end, status_of_stop};
 
-use crate::status::Status;
+use da_command::Status;
 use da_hist::{Plain, Refused, Settings};
 use da_outside::{Sink, Source};
 use da_script::{print_outputs, print_refused, read_event};
-use da_tabline::Lines;
-use da_worker::{Fill, read_into, write_all};
+use da_stream::{LineHandler, LinesEnd, run_lines, write_all};
+use da_tabline::LONGEST_SCRIPT_LINE;
 use std::alloc::{AllocError, Global};
 
-/// The most bytes that a line of a script may have.
-const SCRIPT_LINE_MAX: usize = 16384;
-
-/// The most bytes that an input may have.
-const INPUT_MAX: usize = 1_073_741_824;
-
-/// How the play of one line ended.
+/// Why a line ends the play.
 #[derive(Clone, Copy, Drop)]
-pub enum LineEnd {
-    /// Its event was played or refused, and the reply to it written.
-    Played,
+pub enum LineStop {
     /// It is no event.
     NotEvent,
     /// Its event meets a full history, and nothing was written.
@@ -32,36 +24,74 @@ pub enum LineEnd {
     NoMemory,
 }
 
+/// What plays the events of lines on a server, and writes the replies.
+#[derive(Drop)]
+struct Player<'a, K> {
+    alloc: Global,
+    server: &'a mut Plain,
+    output: &'a mut K,
+}
+
+impl<'a, K: Sink> LineHandler for Player<'a, K> {
+    type Stop = LineStop;
+
+    ghost same = { λ old new. (new.server.ghost_name ≡ old.server.ghost_name) × (new.output.ghost_name ≡ old.output.ghost_name) };
+
+    ghost takes = { λ n line old new. PlaysEvent n line
+        (record { server = old.server.now; output = K.state old.output.now })
+        (record { server = new.server.now; output = K.state new.output.now }) };
+
+    ghost stops = { λ n line old new stop. StopsAtEvent n line
+        (record { server = old.server.now; output = K.state old.output.now })
+        (record { server = new.server.now; output = K.state new.output.now })
+        stop };
+
+    ghost use Rattle.da_app.specs.Play.{PlaysEvent, StopsAtEvent};
+    ghost use Rattle.std.proofs.Common.{rules};
+
+    ghost same_as_itself = { λ x. Prim.search rules };
+
+    ghost same_further = { λ x y z one two. Prim.search rules };
+
+    /// Plays the event that the line spells.
+    fn take(&mut self, number: u64, line: &[u8]) -> Result<(), LineStop> {
+        play_line(self.alloc, self.server, number, line, self.output)
+    }
+}
+
 fn play_line<K: Sink>(
     alloc: Global,
     server: &mut Plain,
     number: u64,
     line: &[u8],
     output: &mut K,
-) -> LineEnd
-    ensures { Plays number line.now server.old server.new (K.contents output.old) (K.contents output.new) (K.faults output.old) (K.faults output.new) result }
+) -> Result<(), LineStop>
+    ensures { Plays number line.now
+        (record { server = server.old; output = K.state output.old })
+        (record { server = server.new; output = K.state output.new })
+        result }
 {
     let event = match read_event(alloc, line) {
         Ok(Some(event)) => event,
-        Ok(None) => return LineEnd::NotEvent,
-        Err(_) => return LineEnd::NoMemory,
+        Ok(None) => return Err(LineStop::NotEvent),
+        Err(_) => return Err(LineStop::NoMemory),
     };
     match server.step(event.0, event.1) {
         Ok(outputs) => write_reply(print_outputs(alloc, number, &outputs), output),
         Err(refused) => match ending(refused) {
-            Some(turn) => turn,
+            Some(stop) => Err(stop),
             None => write_reply(print_refused(alloc, number, &refused), output),
         },
     }
 }
 
-/// How a line's play ends at once, where its event is refused so. The other refusals are printed, and the play goes on.
-fn ending(refused: Refused) -> Option<LineEnd>
+/// Why the play ends at once, where an event is refused so. The other refusals are printed, and the play goes on.
+fn ending(refused: Refused) -> Option<LineStop>
     ensures { result ≡ ending refused }
 {
     match refused {
-        Refused::HistoryFull => Some(LineEnd::Full),
-        Refused::NoMemory => Some(LineEnd::NoMemory),
+        Refused::HistoryFull => Some(LineStop::Full),
+        Refused::NoMemory => Some(LineStop::NoMemory),
         Refused::ConnLimit { .. }
         | Refused::NoConn { .. }
         | Refused::NothingWaits
@@ -71,15 +101,16 @@ fn ending(refused: Refused) -> Option<LineEnd>
 }
 
 /// Writes a printed reply, where there was memory to print it.
-fn write_reply<K: Sink>(text: Result<Vec<u8>, AllocError>, output: &mut K) -> LineEnd
-    ensures { (reply : List ℕ) → IfOk text (λ t. t.items ≡ reply) → WritesReply reply (K.contents output.old) (K.contents output.new) (K.faults output.old) (K.faults output.new) result }
+fn write_reply<K: Sink>(text: Result<Vec<u8>, AllocError>, output: &mut K) -> Result<(), LineStop>
+    ensures { (reply : List ℕ) → IfOk text (λ t. t.items ≡ reply)
+        → WritesReply reply (K.state output.old) (K.state output.new) result }
 {
     let Ok(text) = text else {
-        return LineEnd::NoMemory;
+        return Err(LineStop::NoMemory);
     };
     match write_all(output, &text) {
-        Ok(()) => LineEnd::Played,
-        Err(_) => LineEnd::WriteFault,
+        Ok(()) => Ok(()),
+        Err(_) => Err(LineStop::WriteFault),
     }
 }
 
@@ -91,41 +122,64 @@ pub fn play_script<S: Source, K: Sink>(
     input: &mut S,
     output: &mut K,
 ) -> Status
-    ensures { Ran settings (S.left input.old) (S.left input.new) (K.contents output.old) (K.contents output.new) (S.faults input.old) (S.faults input.new) (K.faults output.old) (K.faults output.new) result }
+    ensures { Ran settings (S.state input.old) (S.state input.new)
+        (K.state output.old) (K.state output.new) result }
 {
     let Ok(mut server) = Plain::new(alloc, settings, None) else {
         return Status::NoMemory;
     };
-    let mut lines = Lines::new(alloc, SCRIPT_LINE_MAX);
-    let mut number = 1;
-    let mut budget = INPUT_MAX;
-    let mut is_long = false;
-    'read: loop {
-        'lines: while let Some(line) = lines.next() {
-            match play_line(alloc, &mut server, number, &line, output) {
-                LineEnd::Played => number += 1,
-                LineEnd::NotEvent => return Status::BadScript { line: number },
-                LineEnd::Full => return Status::Full,
-                LineEnd::WriteFault => return Status::WriteFault,
-                LineEnd::NoMemory => return Status::NoMemory,
-            }
-        }
-        if is_long {
-            return Status::BadScript { line: number };
-        }
-        match read_into(input, &mut lines, budget) {
-            Fill::Fed {
-                count,
-                is_long: long,
-            } => {
-                budget -= count;
-                is_long = long;
-            }
-            Fill::End => return Status::Done,
-            Fill::Cut => return Status::BadScript { line: number },
-            Fill::Much => return Status::LongScript,
-            Fill::ReadFault => return Status::ReadFault,
-            Fill::NoMemory => return Status::NoMemory,
-        }
+    play_on(alloc, &mut server, input, output)
+}
+
+/// Plays the events of the input on a server that has no history yet.
+fn play_on<S: Source, K: Sink>(
+    alloc: Global,
+    server: &mut Plain,
+    input: &mut S,
+    output: &mut K,
+) -> Status
+    requires { server.old.history ≡ [] }
+    ensures { Ran server.old.settings (S.state input.old) (S.state input.new)
+        (K.state output.old) (K.state output.new) result }
+{
+    let mut player = Player {
+        alloc,
+        server,
+        output,
+    };
+    play_lines(input, &mut player)
+}
+
+fn play_lines<S: Source, K: Sink>(input: &mut S, player: &mut Player<'_, K>) -> Status
+    requires { player.old.server.now.history ≡ [] }
+    ensures same_server { player.new.server.ghost_name ≡ player.old.server.ghost_name }
+    ensures same_output { player.new.output.ghost_name ≡ player.old.output.ghost_name }
+    ensures ran { Ran player.old.server.now.settings (S.state input.old) (S.state input.new)
+        (K.state player.old.output.now) (K.state player.new.output.now) result }
+{
+    status_of_end(run_lines(player.alloc, LONGEST_SCRIPT_LINE, input, player))
+}
+
+fn status_of_end(end: LinesEnd<LineStop>) -> Status
+    ensures { result ≡ status_of_end end }
+{
+    match end {
+        LinesEnd::Done => Status::Done,
+        LinesEnd::Cut { line } | LinesEnd::TooLong { line } => Status::BadScript { line },
+        LinesEnd::LongInput => Status::LongScript,
+        LinesEnd::ReadFault => Status::ReadFault,
+        LinesEnd::NoMemory => Status::NoMemory,
+        LinesEnd::Stopped { line, stop } => status_of_stop(line, stop),
+    }
+}
+
+fn status_of_stop(line: u64, stop: LineStop) -> Status
+    ensures { result ≡ status_of_stop line stop }
+{
+    match stop {
+        LineStop::NotEvent => Status::BadScript { line },
+        LineStop::Full => Status::Full,
+        LineStop::WriteFault => Status::WriteFault,
+        LineStop::NoMemory => Status::NoMemory,
     }
 }

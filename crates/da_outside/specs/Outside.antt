@@ -1,4 +1,5 @@
 -- The outside of a command.
+use Rattle.std.specs.Prelude.{◌≡◌}
 use Rattle.da_outside.specs.Files.{FilesState}
 use Rattle.da_outside.specs.Sink.{SinkState}
 use Rattle.da_outside.specs.Source.{SourceState}
@@ -8,3 +9,8 @@ pub record Outside : Type 0 where
   pub files : FilesState
   pub input : SourceState
   pub output : SinkState
+
+-- nothing was read of the input, and nothing was written
+pub record IsUntouched (before now : Outside) : Type 0 where
+  pub input : now.input ≡ before.input
+  pub output : now.output ≡ before.output

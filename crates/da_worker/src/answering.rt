@@ -130,12 +130,32 @@ impl<'a, F: Files, K: Sink> LineHandler for Answerer<'a, F, K> {
     ghost same = { λ old new. (new.files.ghost_name ≡ old.files.ghost_name) × (new.output.ghost_name ≡ old.output.ghost_name) };
 
     ghost takes = { λ n line old new. AnswersLine line
-        (record { pass = old.pass.now; users = old.users.now; files = F.state old.files.now; output = K.state old.output.now })
-        (record { pass = new.pass.now; users = new.users.now; files = F.state new.files.now; output = K.state new.output.now }) };
+        (record {
+          pass = old.pass.now;
+          users = old.users.now;
+          files = F.state old.files.now;
+          output = K.state old.output.now;
+        })
+        (record {
+          pass = new.pass.now;
+          users = new.users.now;
+          files = F.state new.files.now;
+          output = K.state new.output.now;
+        }) };
 
     ghost stops = { λ n line old new stop. StopsAtLine line
-        (record { pass = old.pass.now; users = old.users.now; files = F.state old.files.now; output = K.state old.output.now })
-        (record { pass = new.pass.now; users = new.users.now; files = F.state new.files.now; output = K.state new.output.now })
+        (record {
+          pass = old.pass.now;
+          users = old.users.now;
+          files = F.state old.files.now;
+          output = K.state old.output.now;
+        })
+        (record {
+          pass = new.pass.now;
+          users = new.users.now;
+          files = F.state new.files.now;
+          output = K.state new.output.now;
+        })
         stop };
 
     ghost use Rattle.std.proofs.Common.{rules};

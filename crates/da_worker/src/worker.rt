@@ -48,8 +48,16 @@ pub fn answer_all<'a, F: Files, S: Source, K: Sink>(
     output: &'a mut K,
 ) -> WorkerStatus
     ensures { Ran pass.now users.now
-        (record { files = F.state files.old; input = S.state input.old; output = K.state output.old })
-        (record { files = F.state files.new; input = S.state input.new; output = K.state output.new })
+        (record {
+          files = F.state files.old;
+          input = S.state input.old;
+          output = K.state output.old;
+        })
+        (record {
+          files = F.state files.new;
+          input = S.state input.new;
+          output = K.state output.new;
+        })
         result }
 {
     let mut answerer = Answerer {
@@ -70,8 +78,16 @@ fn answer_lines<S: Source, F: Files, K: Sink>(
     ensures same_files { answerer.new.files.ghost_name ≡ answerer.old.files.ghost_name }
     ensures same_output { answerer.new.output.ghost_name ≡ answerer.old.output.ghost_name }
     ensures ran { Ran answerer.old.pass.now answerer.old.users.now
-        (record { files = F.state answerer.old.files.now; input = S.state input.old; output = K.state answerer.old.output.now })
-        (record { files = F.state answerer.new.files.now; input = S.state input.new; output = K.state answerer.new.output.now })
+        (record {
+          files = F.state answerer.old.files.now;
+          input = S.state input.old;
+          output = K.state answerer.old.output.now;
+        })
+        (record {
+          files = F.state answerer.new.files.now;
+          input = S.state input.new;
+          output = K.state answerer.new.output.now;
+        })
         result }
 {
     status_of_end(run_lines(alloc, LONGEST_LINE, input, answerer))

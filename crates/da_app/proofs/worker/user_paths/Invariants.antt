@@ -1,6 +1,0 @@
-use Rattle.std.proofs.Common.{◌≡◌, map, take}
-use Rattle.da_app.specs.Worker.{user_path}
-use Rattle.da_app.proofs.worker.user_paths.Given as goal
-
-abbrev pub invariant-loop-db : goal.invariant-loop-db
-invariant-loop-db l = l.paths.items ≡ map user_path (take l.db-index l.dbs)

@@ -1,0 +1,5 @@
+pub mod Words
+pub mod Commands
+pub mod Statuses
+pub mod SettingsFile
+pub mod Check
