@@ -8,6 +8,8 @@ mod check;
 #[cfg(test)]
 mod first_login;
 #[cfg(test)]
+mod lock_step;
+#[cfg(test)]
 mod pw;
 #[cfg(test)]
 mod tests_of_connections;

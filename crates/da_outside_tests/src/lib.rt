@@ -1,9 +1,11 @@
-//! The tests of the outside in memory, of checkpassword programs and of workers.
+//! The tests of the outside in memory, of runs over lines, of checkpassword programs and of workers.
 #![tactic(auto)]
 
 #[cfg(test)]
 mod child;
 #[cfg(test)]
 mod outside;
+#[cfg(test)]
+mod stream;
 #[cfg(test)]
 mod worker;

@@ -22,9 +22,7 @@ impl<R> Input<R> {
 }
 
 impl<R: Read> Source for Input<R> {
-    ghost left = { λ _. None };
-
-    ghost faults = { λ input. input.faults };
+    ghost state = { λ input. record { left = None; faults = input.faults } };
 
     fn read(&mut self, buf: &mut [u8]) -> Result<usize, Failed> {
         match self.reader.read(buf) {
@@ -52,9 +50,7 @@ impl Output {
 }
 
 impl Sink for Output {
-    ghost contents = { λ _. None };
-
-    ghost faults = { λ output. output.faults };
+    ghost state = { λ output. record { contents = None; faults = output.faults } };
 
     fn write(&mut self, piece: &[u8]) -> Result<usize, Failed> {
         match usize::try_from(os::write_no_sigpipe(self.fd, piece)) {
@@ -109,11 +105,7 @@ impl<'a, R: rt::Files> Disk<'a, R> {
 }
 
 impl<'a, R: rt::Files> Files for Disk<'a, R> {
-    ghost held = { λ _. None };
-
-    ghost past = { λ _. None };
-
-    ghost faults = { λ disk. disk.faults };
+    ghost state = { λ disk. record { held = None; past = None; faults = disk.faults } };
 
     fn read(&mut self, alloc: Global, path: &[u8], max: usize) -> Result<Vec<u8>, GetFault> {
         let answer = self.look(alloc, path, max);

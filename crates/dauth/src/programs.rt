@@ -35,11 +35,7 @@ impl<'a, R: Processes> Programs<'a, R> {
 }
 
 impl<'a, R: Processes> Runner for Programs<'a, R> {
-    ghost left = { λ _. None };
-
-    ghost past = { λ _. None };
-
-    ghost faults = { λ programs. programs.faults };
+    ghost state = { λ programs. record { left = None; past = None; faults = programs.faults } };
 
     fn run(&mut self, alloc: Global, program: &[u8], input: &[u8]) -> Result<Exit, GetFault> {
         let answer = run_program(self.rt, alloc, program, input);

@@ -84,11 +84,7 @@ impl<P: OpenProcess + Drop> ChildLink<P> {
 }
 
 impl<P: OpenProcess + Drop> Link for ChildLink<P> {
-    ghost left = { λ _. None };
-
-    ghost talk = { λ _. None };
-
-    ghost faults = { λ link. link.faults };
+    ghost state = { λ link. record { left = None; talk = None; faults = link.faults } };
 
     fn send(&mut self, line: &[u8]) -> Result<(), Failed> {
         if self.write(line).is_err() {
@@ -123,11 +119,7 @@ impl<'a, R: Processes> Workers<'a, R> {
 impl<'a, R: Processes> Spawner for Workers<'a, R> {
     type Link = ChildLink<R::Started>;
 
-    ghost left = { λ _. None };
-
-    ghost past = { λ _. None };
-
-    ghost faults = { λ workers. workers.faults };
+    ghost state = { λ workers. record { left = None; past = None; faults = workers.faults } };
 
     fn start(
         &mut self,
