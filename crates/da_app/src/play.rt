@@ -4,7 +4,7 @@ ghost use Rattle.std.specs.Prelude.{◌≡◌, ℕ, [], List, IfOk};
 ghost use Rattle.da_app.specs.Play.{Plays, Ran, WritesReply, ending, status_of_end, status_of_stop};
 
 use da_command::Status;
-use da_hist::{Plain, Refused, Settings};
+use da_core::{Core, Refused, Settings};
 use da_outside::{Sink, Source};
 use da_script::{print_outputs, print_refused, read_event};
 use da_stream::{LineHandler, LinesEnd, run_lines, write_all};
@@ -28,7 +28,7 @@ pub enum LineStop {
 #[derive(Drop)]
 struct Player<'a, K> {
     alloc: Global,
-    server: &'a mut Plain,
+    server: &'a mut Core,
     output: &'a mut K,
 }
 
@@ -61,7 +61,7 @@ impl<'a, K: Sink> LineHandler for Player<'a, K> {
 
 fn play_line<K: Sink>(
     alloc: Global,
-    server: &mut Plain,
+    server: &mut Core,
     number: u64,
     line: &[u8],
     output: &mut K,
@@ -125,7 +125,7 @@ pub fn play_script<S: Source, K: Sink>(
     ensures { Ran settings (S.state input.old) (S.state input.new)
         (K.state output.old) (K.state output.new) result }
 {
-    let Ok(mut server) = Plain::new(alloc, settings, None) else {
+    let Ok(mut server) = Core::new(alloc, settings, None) else {
         return Status::NoMemory;
     };
     play_on(alloc, &mut server, input, output)
@@ -134,7 +134,7 @@ pub fn play_script<S: Source, K: Sink>(
 /// Plays the events of the input on a server that has no history yet.
 fn play_on<S: Source, K: Sink>(
     alloc: Global,
-    server: &mut Plain,
+    server: &mut Core,
     input: &mut S,
     output: &mut K,
 ) -> Status
