@@ -4,6 +4,7 @@
 #![tactic(auto)]
 
 mod bell;
+mod ends;
 mod entries;
 mod looks;
 mod port;
@@ -13,6 +14,7 @@ mod terms;
 mod waiting;
 
 pub use bell::Mark;
+pub use ends::LoopEnd;
 pub use port::Port;
 pub use shared::{Seat, SharedCore};
 pub use terms::Terms;
