@@ -1,0 +1,12 @@
+mod Sittings
+mod Histories
+mod Entering
+mod Sessions
+mod Cuts
+mod Openness
+mod Recordings
+mod Readings
+mod Partings
+mod Wires
+mod Writings
+mod Dues
