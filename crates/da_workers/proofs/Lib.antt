@@ -1,0 +1,6 @@
+mod Deaths
+mod LeftOut
+mod Serving
+mod Sitting
+mod Talks
+mod WorkerLines
