@@ -34,11 +34,19 @@ enum Scene {
     Scram,
 }
 
+fn text(alloc: Global, bytes: &[u8]) -> Result<Text, AllocError> {
+    Text::from_slice(alloc, bytes)
+}
+
+fn variable(alloc: Global, bytes: &[u8]) -> Result<VarText, AllocError> {
+    VarText::from_slice(alloc, bytes)
+}
+
 fn worker(alloc: Global, number: u32) -> Result<Passdb, AllocError> {
     Ok(Passdb {
         number,
         driver: Driver::Worker,
-        args: Text::from_slice(alloc, b"")?,
+        args: text(alloc, b"")?,
         deny: false,
         master: false,
         skip: Skip::Never,
@@ -46,7 +54,7 @@ fn worker(alloc: Global, number: u32) -> Result<Passdb, AllocError> {
         result_failure: Rule::Continue,
         result_internalfail: Rule::Continue,
         default_scheme: Scheme::Plain,
-        username_filter: Text::from_slice(alloc, b"")?,
+        username_filter: text(alloc, b"")?,
         default_fields: Fields::new(alloc),
         override_fields: Fields::new(alloc),
     })
@@ -65,10 +73,9 @@ fn databases(alloc: Global, scene: Scene) -> Result<Vec<Passdb>, AllocError> {
         Scene::MasterReturns => first.master = true,
         Scene::ContinueOk => {
             first.result_success = Rule::ContinueOk;
-            first.override_fields.set(
-                Text::from_slice(alloc, b"quota")?,
-                Text::from_slice(alloc, b"%s")?,
-            )?;
+            first
+                .override_fields
+                .set(text(alloc, b"quota")?, text(alloc, b"%s")?)?;
         }
         Scene::SkipsAuthenticated => {
             first.result_success = Rule::ContinueOk;
@@ -78,7 +85,7 @@ fn databases(alloc: Global, scene: Scene) -> Result<Vec<Passdb>, AllocError> {
             first.result_success = Rule::Continue;
             second.driver = Driver::Checkpassword;
         }
-        Scene::Filter => first.username_filter = Text::from_slice(alloc, b"*@example.com")?,
+        Scene::Filter => first.username_filter = text(alloc, b"*@example.com")?,
         Scene::ReturnFail => {
             first.result_success = Rule::ContinueOk;
             second.result_internalfail = Rule::ReturnFail;
@@ -93,22 +100,22 @@ fn databases(alloc: Global, scene: Scene) -> Result<Vec<Passdb>, AllocError> {
 // A login with the password `pw`.
 fn login(alloc: Global, scene: Scene) -> Result<Login, AllocError> {
     let (user, master): (&[u8], Option<Text>) = match scene {
-        Scene::Master | Scene::MasterReturns => (b"bob", Some(Text::from_slice(alloc, b"root")?)),
+        Scene::Master | Scene::MasterReturns => (b"bob", Some(text(alloc, b"root")?)),
         _ => (b"alice", None),
     };
     Ok(Login {
-        user: Text::from_slice(alloc, user)?,
+        user: text(alloc, user)?,
         master,
         proof: match scene {
             Scene::Cram => Proof::Cram,
             Scene::Scram => Proof::Scram,
-            _ => Proof::Plain(Text::from_slice(alloc, b"pw")?),
+            _ => Proof::Plain(text(alloc, b"pw")?),
         },
         vars: Vars {
-            user: VarText::from_slice(alloc, user)?,
-            service: VarText::from_slice(alloc, b"imap")?,
-            rip: VarText::from_slice(alloc, b"127.0.0.1")?,
-            lip: VarText::from_slice(alloc, b"127.0.0.1")?,
+            user: variable(alloc, user)?,
+            service: variable(alloc, b"imap")?,
+            rip: variable(alloc, b"127.0.0.1")?,
+            lip: variable(alloc, b"127.0.0.1")?,
         },
     })
 }
@@ -125,14 +132,11 @@ fn answer(alloc: Global, reported: &[u8]) -> Result<Answer, AllocError> {
         return Ok(Answer::Unknown);
     };
     let mut words = rest.split(|byte| *byte == b' ');
-    let stored = Text::from_slice(alloc, words.next().unwrap_or(b""))?;
+    let stored = text(alloc, words.next().unwrap_or(b""))?;
     let mut fields = Fields::new(alloc);
     for word in words {
         let (key, value) = key_and_value(word);
-        fields.set(
-            Text::from_slice(alloc, key)?,
-            Text::from_slice(alloc, value)?,
-        )?;
+        fields.set(text(alloc, key)?, text(alloc, value)?)?;
     }
     Ok(match *letter {
         b'F' => Answer::Found { stored, fields },

@@ -21,11 +21,19 @@ enum Scene {
     SkipsNotFound,
 }
 
+fn text(alloc: Global, bytes: &[u8]) -> Result<Text, AllocError> {
+    Text::from_slice(alloc, bytes)
+}
+
+fn variable(alloc: Global, bytes: &[u8]) -> Result<VarText, AllocError> {
+    VarText::from_slice(alloc, bytes)
+}
+
 fn worker(alloc: Global, number: u32) -> Result<Userdb, AllocError> {
     Ok(Userdb {
         number,
         driver: UserDriver::Worker,
-        args: Text::from_slice(alloc, b"")?,
+        args: text(alloc, b"")?,
         skip: UserSkip::Never,
         result_success: UserRule::ReturnOk,
         result_failure: UserRule::Continue,
@@ -43,14 +51,12 @@ fn databases(alloc: Global, scene: Scene) -> Result<Vec<Userdb>, AllocError> {
         Scene::Prefetch => first.driver = UserDriver::Prefetch,
         Scene::Continue => {
             first.result_success = UserRule::ContinueOk;
-            first.default_fields.set(
-                Text::from_slice(alloc, b"gid")?,
-                Text::from_slice(alloc, b"100")?,
-            )?;
-            first.override_fields.set(
-                Text::from_slice(alloc, b"home")?,
-                Text::from_slice(alloc, b"/home/%n")?,
-            )?;
+            first
+                .default_fields
+                .set(text(alloc, b"gid")?, text(alloc, b"100")?)?;
+            first
+                .override_fields
+                .set(text(alloc, b"home")?, text(alloc, b"/home/%n")?)?;
             second.skip = UserSkip::Found;
         }
         Scene::ReturnFail => first.result_internalfail = UserRule::ReturnFail,
@@ -64,10 +70,10 @@ fn databases(alloc: Global, scene: Scene) -> Result<Vec<Userdb>, AllocError> {
 
 fn variables(alloc: Global) -> Result<Vars, AllocError> {
     Ok(Vars {
-        user: VarText::from_slice(alloc, b"alice@example.com")?,
-        service: VarText::from_slice(alloc, b"imap")?,
-        rip: VarText::from_slice(alloc, b"127.0.0.1")?,
-        lip: VarText::from_slice(alloc, b"127.0.0.1")?,
+        user: variable(alloc, b"alice@example.com")?,
+        service: variable(alloc, b"imap")?,
+        rip: variable(alloc, b"127.0.0.1")?,
+        lip: variable(alloc, b"127.0.0.1")?,
     })
 }
 
@@ -85,10 +91,7 @@ fn fields(alloc: Global, reported: &[u8]) -> Result<Fields, AllocError> {
     }
     for word in reported.split(|byte| *byte == b' ') {
         let (key, value) = key_and_value(word);
-        fields.set(
-            Text::from_slice(alloc, key)?,
-            Text::from_slice(alloc, value)?,
-        )?;
+        fields.set(text(alloc, key)?, text(alloc, value)?)?;
     }
     Ok(fields)
 }
@@ -101,11 +104,11 @@ fn answer(alloc: Global, reported: &[u8]) -> Result<Answer, AllocError> {
     let fields = fields(alloc, rest)?;
     Ok(match *letter {
         b'F' => Answer::Found {
-            stored: Text::from_slice(alloc, b"")?,
+            stored: text(alloc, b"")?,
             fields,
         },
         b'S' => Answer::Found {
-            stored: Text::from_slice(alloc, b"{PLAIN}pw")?,
+            stored: text(alloc, b"{PLAIN}pw")?,
             fields,
         },
         b'I' => Answer::Internal(Why::Said),
@@ -160,7 +163,7 @@ fn told_at_once(
     if !are_valid_userdbs(&dbs) {
         return Vec::from_slice(alloc, b"not valid");
     }
-    let user = Text::from_slice(alloc, b"alice@example.com")?;
+    let user = text(alloc, b"alice@example.com")?;
     let given = fields(alloc, given)?;
     let vars = variables(alloc)?;
     let answers = numbered(alloc, reported)?;
@@ -211,7 +214,7 @@ fn told_by_cursor(
     if !are_valid_userdbs(&dbs) {
         return Vec::from_slice(alloc, b"not valid");
     }
-    let user = Text::from_slice(alloc, b"alice@example.com")?;
+    let user = text(alloc, b"alice@example.com")?;
     let given = fields(alloc, given)?;
     let vars = variables(alloc)?;
     let answers = numbered(alloc, reported)?;

@@ -43,7 +43,7 @@ fn letter(said: &Said) -> u8 {
 fn texts(alloc: Global, case: &[u8]) -> Result<Vec<Text>, AllocError> {
     let mut texts = Vec::new(alloc);
     for piece in case.split(|byte| *byte == b';') {
-        texts.push(Text::from_slice(alloc, piece)?)?;
+        texts.push(Text::new(Vec::from_slice(alloc, piece)?))?;
     }
     Ok(texts)
 }

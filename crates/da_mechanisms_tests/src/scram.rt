@@ -62,7 +62,7 @@ fn letter(said: &Said) -> u8 {
 }
 
 fn push(alloc: Global, texts: &mut Vec<Text>, bytes: &[u8]) -> Result<(), AllocError> {
-    Ok(texts.push(Text::from_slice(alloc, bytes)?)?)
+    Ok(texts.push(Text::new(Vec::from_slice(alloc, bytes)?))?)
 }
 
 #[test]

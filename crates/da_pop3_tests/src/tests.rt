@@ -34,7 +34,7 @@ fn event_of(alloc: Global, line: &[u8]) -> Result<Option<Event>, AllocError> {
         return Ok(None);
     };
     let text = match rest.split_first() {
-        Some((_, text)) => Text::from_slice(alloc, text)?,
+        Some((_, text)) => Text::new(Vec::from_slice(alloc, text)?),
         None => Text::new(Vec::new(alloc)),
     };
     Ok(if kind == b"auth".as_slice() {
@@ -204,6 +204,10 @@ master> REQUEST~2~7~2~0a0a0a0a0a0a0a0a0a0a0a0a0a0a0a0a
 start> al ice~uid=1~flag=
 ";
 
+fn text(alloc: Global, bytes: &[u8]) -> Result<Text, AllocError> {
+    Text::from_slice(alloc, bytes)
+}
+
 fn open_by_handshakes(
     session: &mut Pop3,
     alloc: Global,
@@ -235,11 +239,7 @@ fn tell_command(
     command: &[u8],
     log: &mut Vec<u8>,
 ) -> Result<(), AllocError> {
-    tell(
-        session,
-        Event::Client(Text::from_slice(alloc, command)?),
-        log,
-    )
+    tell(session, Event::Client(text(alloc, command)?), log)
 }
 
 fn fail_by_printed_lines(
@@ -251,13 +251,13 @@ fn fail_by_printed_lines(
     tell_command(session, alloc, b"AUTH PLAIN", log)?;
     let challenge = Reply::Cont {
         id: 1,
-        text: Text::from_slice(alloc, b"Y2hhbGxlbmdl")?,
+        text: text(alloc, b"Y2hhbGxlbmdl")?,
     };
     tell_reply(session, alloc, &challenge, log)?;
     tell_command(session, alloc, b"QQ==", log)?;
     let failure = Reply::Fail {
         id: 1,
-        user: Some(Text::from_slice(alloc, b"al ice")?),
+        user: Some(text(alloc, b"al ice")?),
         authz: false,
         temp: true,
         disabled: false,
@@ -269,25 +269,19 @@ fn fail_by_printed_lines(
 fn okay(alloc: Global) -> Result<Reply, AllocError> {
     Ok(Reply::Ok {
         id: 2,
-        user: Text::from_slice(alloc, b"al ice")?,
+        user: text(alloc, b"al ice")?,
         fields: Fields::new(alloc),
-        last: Some(Text::from_slice(alloc, b"dj0x")?),
+        last: Some(text(alloc, b"dj0x")?),
     })
 }
 
 fn user(alloc: Global) -> Result<MasterReply, AllocError> {
     let mut fields = Fields::new(alloc);
-    fields.set(
-        Text::from_slice(alloc, b"uid")?,
-        Text::from_slice(alloc, b"1")?,
-    )?;
-    fields.set(
-        Text::from_slice(alloc, b"flag")?,
-        Text::from_slice(alloc, b"")?,
-    )?;
+    fields.set(text(alloc, b"uid")?, text(alloc, b"1")?)?;
+    fields.set(text(alloc, b"flag")?, text(alloc, b"")?)?;
     Ok(MasterReply::User {
         id: 2,
-        user: Text::from_slice(alloc, b"al ice")?,
+        user: text(alloc, b"al ice")?,
         fields,
     })
 }

@@ -2,11 +2,12 @@ use da_fields::*;
 use std::alloc::{AllocError, Global};
 use std::test::Fail;
 
+fn text(alloc: Global, bytes: &[u8]) -> Result<Text, AllocError> {
+    Text::from_slice(alloc, bytes)
+}
+
 fn put(fields: &mut Fields, alloc: Global, key: &[u8], value: &[u8]) -> Result<(), AllocError> {
-    fields.set(
-        Text::from_slice(alloc, key)?,
-        Text::from_slice(alloc, value)?,
-    )
+    fields.set(text(alloc, key)?, text(alloc, value)?)
 }
 
 fn shown(alloc: Global, fields: &Fields) -> Result<Vec<u8>, AllocError> {
@@ -83,7 +84,7 @@ fn copies_are_equal(rt: HostRuntime) -> Result<(), Fail> {
     let alloc = rt.alloc();
     let mut fields = Fields::new(alloc);
     put(&mut fields, alloc, b"uid", b"1000")?;
-    let stored = Text::from_slice(alloc, b"{PLAIN}pw")?;
+    let stored = text(alloc, b"{PLAIN}pw")?;
     let answer = Answer::Found { stored, fields };
     match answer.copy(alloc)? {
         Answer::Found { stored, fields } => {
@@ -96,8 +97,8 @@ fn copies_are_equal(rt: HostRuntime) -> Result<(), Fail> {
         number: 7,
         kind: QueryKind::Check,
         db: 2,
-        user: Text::from_slice(alloc, b"alice")?,
-        password: Some(Text::from_slice(alloc, b"pw")?),
+        user: text(alloc, b"alice")?,
+        password: Some(text(alloc, b"pw")?),
     };
     let copy = query.copy(alloc)?;
     assert_eq!(rt; copy.user.bytes(), b"alice".as_slice());

@@ -36,6 +36,10 @@ fn master_letter(message: &Option<MasterMsg>) -> u8 {
     }
 }
 
+fn text(alloc: Global, bytes: &[u8]) -> Result<Text, AllocError> {
+    Text::from_slice(alloc, bytes)
+}
+
 #[test]
 fn lines_spell_their_messages(rt: HostRuntime) -> Result<(), Fail> {
     let alloc = rt.alloc();
@@ -84,21 +88,12 @@ fn of_equal_parameters_the_last_holds(rt: HostRuntime) -> Result<(), Fail> {
 fn replies_have_their_fields_in_order(rt: HostRuntime) -> Result<(), Fail> {
     let alloc = rt.alloc();
     let mut fields = Fields::new(alloc);
-    fields.set(
-        Text::from_slice(alloc, b"uid")?,
-        Text::from_slice(alloc, b"1000")?,
-    )?;
-    fields.set(
-        Text::from_slice(alloc, b"nodelay")?,
-        Text::from_slice(alloc, b"")?,
-    )?;
-    fields.set(
-        Text::from_slice(alloc, b"proxy")?,
-        Text::from_slice(alloc, b"")?,
-    )?;
+    fields.set(text(alloc, b"uid")?, text(alloc, b"1000")?)?;
+    fields.set(text(alloc, b"nodelay")?, text(alloc, b"")?)?;
+    fields.set(text(alloc, b"proxy")?, text(alloc, b"")?)?;
     let user = MasterReply::User {
         id: 3,
-        user: Text::from_slice(alloc, b"alice")?,
+        user: text(alloc, b"alice")?,
         fields: fields.copy(alloc)?,
     };
     assert_eq!(rt;
@@ -109,9 +104,9 @@ fn replies_have_their_fields_in_order(rt: HostRuntime) -> Result<(), Fail> {
     assert_eq!(rt; none.print(alloc)?.as_slice(), b"NOTFOUND\t1".as_slice());
     let ok = Reply::Ok {
         id: 1,
-        user: Text::from_slice(alloc, b"a\tb")?,
+        user: text(alloc, b"a\tb")?,
         fields,
-        last: Some(Text::from_slice(alloc, b"dj0=")?),
+        last: Some(text(alloc, b"dj0=")?),
     };
     assert_eq!(rt;
         ok.print(alloc)?.as_slice(),
@@ -119,11 +114,11 @@ fn replies_have_their_fields_in_order(rt: HostRuntime) -> Result<(), Fail> {
     );
     let fail = Reply::Fail {
         id: 9,
-        user: Some(Text::from_slice(alloc, b"bob")?),
+        user: Some(text(alloc, b"bob")?),
         authz: true,
         temp: false,
         disabled: true,
-        reason: Some(Text::from_slice(alloc, b"")?),
+        reason: Some(text(alloc, b"")?),
     };
     assert_eq!(rt;
         fail.print(alloc)?.as_slice(),

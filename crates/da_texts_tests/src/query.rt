@@ -25,12 +25,16 @@ const SCRIPT_LINES: &[u8] = b"+FOUND\t1\t{PLAIN}pw\tuserdb_quota=1G\tnodelay\n\
 -INTERNAL\t1\tlate\n-INTERNAL\t1\n-INTERNAL\t1\texit\n-INTERNAL\t1\texit\t00\n-INTERNAL\t1\tdied\t\n-INTERNAL\t1\texit\t1\t\n\
 -FAIL\t1\n-FAIL\t1\tdisk\n-FOUND\t1\n-FOUND\t1\tx\ta\ta=1\n-UNKNOWN\t4294967296";
 
+fn text(alloc: Global, bytes: &[u8]) -> Result<Text, AllocError> {
+    Text::from_slice(alloc, bytes)
+}
+
 fn query_of_kind(alloc: Global, kind: QueryKind) -> Result<Query, AllocError> {
     Ok(Query {
         number: 5,
         kind,
         db: 1,
-        user: Text::from_slice(alloc, b"alice")?,
+        user: text(alloc, b"alice")?,
         password: None,
     })
 }
@@ -110,11 +114,11 @@ fn a_late_answer_is_printed_and_never_read(rt: HostRuntime) -> Result<(), Fail> 
 fn an_answer_of_a_user_database_has_no_password(rt: HostRuntime) -> Result<(), Fail> {
     let alloc = rt.alloc();
     let with = Answer::Found {
-        stored: Text::from_slice(alloc, b"x")?,
+        stored: text(alloc, b"x")?,
         fields: Fields::new(alloc),
     };
     let without = Answer::Found {
-        stored: Text::from_slice(alloc, b"")?,
+        stored: text(alloc, b"")?,
         fields: Fields::new(alloc),
     };
     assert!(rt; fit(QueryKind::Pass, &with));
