@@ -11,7 +11,7 @@ use Rattle.da_invariants.proofs.KeysLaw.{newest_has}
 use Rattle.da_invariants.proofs.KnownHits.{usable_known, known_stays}
 use Rattle.da_invariants.proofs.OpenQueries.{AllAsked, history_asked, due_all_asked, nowhere}
 use Rattle.da_tables.proofs.Rows.{of_changed, of_appended, of_mapped, passing, nth-changed}
-use Rattle.da_invariants.proofs.Standing.{input_stands, continued_stands, due_stand, tables_later, all_same}
+use Rattle.da_steps.proofs.Standing.{input_stands, continued_stands, due_stand, tables_later, all_same}
 use Rattle.da_base.specs.Words.{nth, changed_nth, count_where, option_or_else}
 use Rattle.da_keys.specs.Keys.{same_key}
 use Rattle.da_keys.specs.declared.key.Key.{Key}
@@ -28,7 +28,7 @@ use Rattle.da_tables.specs.Queries.{is_running}
 use Rattle.da_request.specs.Requests.{with_answer, with_late_answer}
 use Rattle.da_invariants.specs.QueryLaws.{IsAsked, AnswersAreDistinct}
 use Rattle.da_request.specs.Requests.{is_due, request_stage, question_in, is_undecided}
-use Rattle.da_invariants.specs.StandingLaws.{TablesStand, QueryStands}
+use Rattle.da_steps.specs.Standing.{TablesStand, QueryStands}
 use Rattle.da_tables.specs.Tables.{AfterInput, with_end}
 use Rattle.da_request.specs.Requests.{cancelled, as_cancelled_of, is_of}
 use Rattle.da_play.specs.declared.input.Entry.{Entry}

@@ -6,7 +6,7 @@ use Rattle.da_tables.proofs.Cases.{by_test}
 use Rattle.da_play.proofs.EntryParts.{InputParts, ContinuedParts, IsSound, sound_input, continued_gives, with_kept}
 use Rattle.da_invariants.proofs.Keys.{keys_equal, key_is, not_without, without_has, first_distinct, without_distinct, first_has, has_first, first_fits, without_fits, take_fits, take_count, take_has}
 use Rattle.da_tables.proofs.Rows.{passing, nth-changed}
-use Rattle.da_invariants.proofs.Standing.{input_stands, continued_stands, due_stand, tables_later, all_same}
+use Rattle.da_steps.proofs.Standing.{input_stands, continued_stands, due_stand, tables_later, all_same}
 use Rattle.da_base.specs.Words.{nth, changed_nth, passes_option, count_where}
 use Rattle.da_keys.specs.Keys.{same_key, has_key, without_key, key_first, with_key}
 use Rattle.da_keys.specs.declared.key.Key.{Key}
@@ -20,7 +20,7 @@ use Rattle.da_answers.specs.RecordedAnswers.{key_of, ttl_of, recorded_answer, an
 use Rattle.da_tables.specs.Queries.{is_running, is_running_in}
 use Rattle.da_play.specs.History.{Tells}
 use Rattle.da_request.specs.Requests.{is_undecided}
-use Rattle.da_invariants.specs.StandingLaws.{TablesStand, QueryStands}
+use Rattle.da_steps.specs.Standing.{TablesStand, QueryStands}
 use Rattle.da_tables.specs.Tables.{AfterInput, with_end, continuing_none}
 use Rattle.da_play.specs.declared.input.Entry.{Entry}
 use Rattle.da_play.specs.declared.input.Input.{Input}

@@ -7,7 +7,7 @@ use Rattle.da_fields.specs.declared.answer.Answer.{Answer}
 use Rattle.da_answers.specs.RecordedAnswers.{answer_under}
 use Rattle.da_answers.specs.Hits.{AreHits, IsUsable, with_hit, answer_of}
 use Rattle.da_play.specs.Legal.{ContinuedHits}
-use Rattle.da_invariants.specs.StandingLaws.{TablesStand, QueryStands}
+use Rattle.da_steps.specs.Standing.{TablesStand, QueryStands}
 use Rattle.da_settings.specs.declared.settings.Settings.{Settings}
 use Rattle.da_tables.specs.declared.queries.QueryRow.{QueryRow}
 use Rattle.da_request.specs.declared.stages.Question.{Question}

@@ -4,7 +4,7 @@ use Rattle.std.proofs.lemmas.Option.{none-some, same_Some}
 use Rattle.da_tables.proofs.Cases.{by_test, and_first, and_second, not_true}
 use Rattle.da_play.proofs.EntryParts.{InputParts, ContinuedParts, an_entry_gives}
 use Rattle.da_tables.proofs.Rows.{of_changed, of_appended, nth-past, nth-unchanged}
-use Rattle.da_invariants.proofs.Standing.{RowsStand, longer_rows, mapped_rows, changed_rows, undecided_is}
+use Rattle.da_steps.proofs.Standing.{RowsStand, longer_rows, mapped_rows, changed_rows, undecided_is}
 use Rattle.da_base.specs.Words.{Bytes, nth, changed_nth}
 use Rattle.da_fields.specs.declared.answer.Answer.{Answer}
 use Rattle.da_play.specs.History.{tables_of, after}

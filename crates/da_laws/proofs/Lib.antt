@@ -6,7 +6,6 @@ pub mod GrantLaw
 pub mod GrantStands
 pub mod GrantedOnce
 pub mod HitsLaw
-pub mod HitsMade
 pub mod LegalLaw
 pub mod LineLaw
 pub mod Noted
@@ -17,5 +16,3 @@ pub mod RunEnds
 pub mod Silent
 pub mod StageLaw
 pub mod SuccessLaw
-pub mod UsableLemmas
-pub mod AskedDatabases

@@ -8,7 +8,7 @@ use Rattle.da_play.proofs.EntryParts.{InputParts, ContinuedParts, IsMade, IsSame
 use Rattle.da_invariants.proofs.OpenQueries.{nowhere}
 use Rattle.da_laws.proofs.RepliedOnce.{times, times-due}
 use Rattle.da_tables.proofs.Rows.{of_changed, of_appended, of_mapped, nth-changed, nth-unchanged, nth-before, nth-past, same_or_not, mapped_value}
-use Rattle.da_invariants.proofs.Standing.{entry_stands}
+use Rattle.da_steps.proofs.Standing.{entry_stands}
 use Rattle.da_base.specs.Words.{Bytes, nth, changed_nth, passes_option, option_or_else}
 use Rattle.da_fields.specs.declared.answer.Answer.{Answer}
 use Rattle.da_msgs.specs.Replies.{greeting}
@@ -20,7 +20,7 @@ use Rattle.da_request.specs.Requests.{new_request, with_text}
 use Rattle.da_request.specs.Requests.{with_answer, with_late_answer}
 use Rattle.da_laws.specs.ReplyLaws.{EndedIsSilent}
 use Rattle.da_request.specs.Requests.{is_undecided, is_pending, is_due, is_held, request_stage, challenge_in, challenge_line}
-use Rattle.da_invariants.specs.StandingLaws.{RequestStands, ConnectionStands}
+use Rattle.da_steps.specs.Standing.{RequestStands, ConnectionStands}
 use Rattle.da_tables.specs.Tables.{with_end, closed}
 use Rattle.da_request.specs.Requests.{cancelled, as_cancelled_of, is_of}
 use Rattle.da_play.specs.declared.input.Entry.{Entry}

@@ -11,7 +11,7 @@ use Rattle.da_play.specs.declared.input.Entry.{Entry}
 use Rattle.da_play.specs.declared.input.Input.TheVariants.{Opened, Take}
 use Rattle.da_play.specs.declared.outputs.Outputs.{Outputs}
 use Rattle.da_port.proofs.Causes.{given_replies, something_waits}
-use Rattle.da_readings.proofs.QueryReadings.{hands_out, taken_row}
+use Rattle.da_steps.proofs.TakeSteps.{hands_out, taken_row}
 use Rattle.da_request.specs.Requests.{is_due, replied_if_due}
 use Rattle.da_request.specs.declared.request.Request.{Request}
 use Rattle.da_settings.specs.declared.settings.Settings.{Settings}

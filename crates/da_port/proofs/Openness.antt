@@ -16,7 +16,7 @@ use Rattle.da_play.specs.declared.input.Entry.{Entry}
 use Rattle.da_play.specs.declared.input.Input.TheVariants.{Line}
 use Rattle.da_play.specs.declared.outputs.Outputs.{Outputs}
 use Rattle.da_port.proofs.Causes.{given_replies, open_for_line}
-use Rattle.da_readings.proofs.ConnectionReadings.{open_step}
+use Rattle.da_steps.proofs.OpenSteps.{open_step}
 use Rattle.da_request.specs.Requests.{cancelled, is_awaiting, with_text}
 use Rattle.da_settings.specs.declared.settings.Settings.{Settings}
 use Rattle.da_tables.proofs.Cases.{by_test}

@@ -1,6 +1,6 @@
 -- What one step of a server keeps, and what it adds.
 use Rattle.std.proofs.Common.{◌≡◌, sym, subst, ℕ, Result, Ok, Err}
-use Rattle.da_laws.proofs.LegalLaw.{legal_after}
+use Rattle.da_steps.proofs.LegalSteps.{legal_after}
 use Rattle.da_play.specs.Legal.{IsLegal}
 use Rattle.da_play.specs.Play.{history_after}
 use Rattle.da_play.specs.Served.{Served}

@@ -1,14 +1,14 @@
 -- The answers of a request are those of its own queries and of its hits; the cacheable answers are the answers that may be kept.
 use Rattle.std.proofs.Common.{◌≡◌, refl, ◌∙◌, ap, Option, Some, None, [], ◌∷◌, ◌++◌, ℕ, Bool, true, false, cond, ◌&&◌, true≢false}
 use Rattle.da_play.proofs.EntryParts.{InputParts, ContinuedParts, IsSound, sound_input, continued_gives, with_kept}
-use Rattle.da_invariants.proofs.Standing.{input_stands, continued_stands, all_same}
+use Rattle.da_steps.proofs.Standing.{input_stands, continued_stands, all_same}
 use Rattle.da_base.specs.Words.{nth, passes_option, option_or_else}
 use Rattle.da_readings.specs.ListReadings.{kept_query, CacheableAreRead}
 use Rattle.da_play.specs.History.{tables_of, after, after_input, after_continued, keeps, kept_for}
 use Rattle.da_tables.specs.Tables.{with_due_replied}
 use Rattle.da_answers.specs.RecordedAnswers.{is_kept, recorded_answer}
 use Rattle.da_tables.specs.Queries.{is_running, is_running_in}
-use Rattle.da_invariants.specs.StandingLaws.{TablesStand, QueryStands}
+use Rattle.da_steps.specs.Standing.{TablesStand, QueryStands}
 use Rattle.da_tables.specs.Tables.{AfterInput, with_end}
 use Rattle.da_play.specs.declared.input.Entry.{Entry}
 use Rattle.da_play.specs.declared.input.Input.{Input}

@@ -8,7 +8,7 @@ use Rattle.da_invariants.proofs.OpenQueries.{none_there}
 use Rattle.da_invariants.proofs.KnownHits.{IsKnown, AllKnown, one_known, continued_known, known_under, IsSameHit, same_hit, known_stays}
 use Rattle.da_readings.proofs.OwnAnswers.{told_given, given_of}
 use Rattle.da_tables.proofs.Rows.{same_or_not, nth-changed, nth-unchanged, passing, listed, listed_at, changed_listed, new_listed}
-use Rattle.da_invariants.proofs.Standing.{input_stands, continued_stands, due_stand, rest_stands, tables_later, all_same}
+use Rattle.da_steps.proofs.Standing.{input_stands, continued_stands, due_stand, rest_stands, tables_later, all_same}
 use Rattle.da_base.specs.Words.{nth, changed_nth, passes_option, option_or_else}
 use Rattle.da_fields.specs.Answers.{Answers}
 use Rattle.da_fields.specs.declared.answer.Answer.{Answer}
@@ -25,7 +25,7 @@ use Rattle.da_request.specs.Requests.{use_comparison, with_answer}
 use Rattle.da_tables.specs.Queries.{with_comparison, is_running, first_waiting}
 use Rattle.da_play.specs.History.{Tells}
 use Rattle.da_request.specs.Requests.{is_undecided}
-use Rattle.da_invariants.specs.StandingLaws.{TablesStand, QueryStands}
+use Rattle.da_steps.specs.Standing.{TablesStand, QueryStands}
 use Rattle.da_tables.specs.Tables.{AfterInput, with_end}
 use Rattle.da_play.specs.declared.input.Entry.{Entry}
 use Rattle.da_play.specs.declared.input.Input.TheVariants.{Take}

@@ -7,7 +7,7 @@ use Rattle.da_invariants.proofs.KeysLaw.{IsRecorded, told_is_recorded}
 use Rattle.da_invariants.proofs.KnownHits.{IsKnown, AllKnown, one_known, continued_known, known_under, told_row, IsSameHit, same_hit, known_stays}
 use Rattle.da_invariants.proofs.OpenQueries.{AllAsked, history_asked, due_all_asked, none_there}
 use Rattle.da_tables.proofs.Rows.{same_or_not, nth-changed, nth-unchanged, passing, listed, listed_at, changed_listed, map_listed, new_listed}
-use Rattle.da_invariants.proofs.Standing.{input_stands, continued_stands, due_stand, rest_stands, tables_later, all_same}
+use Rattle.da_steps.proofs.Standing.{input_stands, continued_stands, due_stand, rest_stands, tables_later, all_same}
 use Rattle.da_base.specs.Words.{nth, changed_nth, passes_option, option_or_else}
 use Rattle.da_fields.specs.Answers.{Answers}
 use Rattle.da_fields.specs.declared.answer.Answer.{Answer}
@@ -27,7 +27,7 @@ use Rattle.da_request.specs.Requests.{with_answer, with_late_answer}
 use Rattle.da_invariants.specs.QueryLaws.{IsAsked}
 use Rattle.da_play.specs.History.{Tells}
 use Rattle.da_request.specs.Requests.{is_due, is_undecided}
-use Rattle.da_invariants.specs.StandingLaws.{TablesStand, QueryStands}
+use Rattle.da_steps.specs.Standing.{TablesStand, QueryStands}
 use Rattle.da_tables.specs.Tables.{AfterInput, with_end}
 use Rattle.da_request.specs.Requests.{cancelled, as_cancelled_of, is_of}
 use Rattle.da_play.specs.declared.input.Entry.{Entry}

@@ -1,15 +1,15 @@
 -- What the tables say of queries is what the entries did.
-use Rattle.std.proofs.Common.{◌≡◌, ◌⊎◌, inl, inr, refl, sym, ◌∙◌, ap, ap₂, subst, Option, Some, None, List, [], ◌∷◌, ◌++◌, ℕ, zero, suc, true, option_map}
+use Rattle.std.proofs.Common.{◌≡◌, ◌⊎◌, inl, inr, refl, sym, ◌∙◌, ap, ap₂, subst, Option, Some, None, List, [], ◌∷◌, ◌++◌, ℕ, zero, suc, true}
 use Rattle.std.proofs.lemmas.Option.{none-some, same_Some}
 use Rattle.da_readings.proofs.Came.{WasThere, AllCame, came_same, came_changed, came_longer}
 use Rattle.da_play.proofs.EntryParts.{InputParts, ContinuedParts, an_entry_gives}
 use Rattle.da_invariants.proofs.KeysLaw.{IsRecorded, told_is_recorded}
 use Rattle.da_invariants.proofs.OpenQueries.{nowhere}
-use Rattle.da_tables.proofs.Rows.{nth-changed, passing, number_found, is_listed}
-use Rattle.da_invariants.proofs.Standing.{rest_stands, what_is_done_stands}
+use Rattle.da_tables.proofs.Rows.{passing, is_listed}
+use Rattle.da_invariants.proofs.Standing.{what_is_done_stands}
+use Rattle.da_steps.proofs.Standing.{rest_stands}
 use Rattle.da_base.specs.Words.{nth, changed_nth, passes_option}
 use Rattle.da_fields.specs.declared.answer.Answer.{Answer}
-use Rattle.da_play.specs.Effects.{effects, handed_out_by}
 use Rattle.da_play.specs.History.{tables_of, after, after_input}
 use Rattle.da_tables.specs.Tables.{with_due_replied}
 use Rattle.da_tables.specs.Queries.{as_taken}
@@ -19,15 +19,15 @@ use Rattle.da_answers.specs.RecordedAnswers.{answered_by, recorded_answer}
 use Rattle.da_tables.specs.Queries.{first_waiting, is_running, is_running_in, is_waiting}
 use Rattle.da_readings.specs.RowReadings.{Among, WasTaken, WasAnswered, QueriesAreRead}
 use Rattle.da_play.specs.History.{Tells}
-use Rattle.da_invariants.specs.StandingLaws.{TablesStand, QueryStands}
+use Rattle.da_steps.specs.Standing.{TablesStand, QueryStands}
 use Rattle.da_tables.specs.Tables.{with_end}
 use Rattle.da_play.specs.declared.input.Entry.{Entry}
-use Rattle.da_play.specs.declared.input.Input.{Input}
 use Rattle.da_play.specs.declared.input.Input.TheVariants.{Take}
 use Rattle.da_settings.specs.declared.settings.Settings.{Settings}
 use Rattle.da_tables.specs.declared.queries.QueryRow.{QueryRow}
 use Rattle.da_request.specs.declared.stages.Question.{Question}
 use Rattle.da_tables.specs.declared.tables.Tables.{Tables}
+use Rattle.da_steps.proofs.TakeSteps.{hands_out, taken_row}
 
 -- ---- what a Take handed out
 
@@ -148,10 +148,6 @@ module _ (settings : Settings) (e : Entry) (origin : Tables) where
   unfolding with_due_replied
   same_running n = refl
 
-  pub hands_out : e.input ≡ Take → (effects settings origin e).handed_out ≡ Some (first_waiting before)
-  unfolding effects
-  hands_out l = ap (λ (i : Input). handed_out_by i before) l
-
 -- ---- a history
 
 pub later_among : (e : Entry) (g : List Entry) (entry : Entry) (older : List Entry) → Among g entry older → Among (e ∷ g) entry older
@@ -211,24 +207,6 @@ module _ (settings : Settings) where
     abbrev now : Tables
     now = with_due_replied settings e.moment (tables_of settings g)
 
-    -- what a Take hands out is taken
-    pub taken_row : (n : ℕ) → e.input ≡ Take → (effects settings (tables_of settings g) e).handed_out ≡ Some (suc n) → (b : QueryRow) × (nth (tables_of settings (e ∷ g)).queries (suc n) ≡ Some b) × (b.taken ≡ Some e.moment)
-    unfolding after_input
-    taken_row n l h = go (number_found (is_waiting now) now.queries n number)
-      where
-        number : first_waiting now ≡ suc n
-        number = same_Some _ _ (sym (hands_out settings e (tables_of settings g) l) ∙ h)
-
-        row : (a : QueryRow) → nth now.queries (suc n) ≡ Some a → nth (after_input settings e.moment e.input now).tables.queries (suc n) ≡ Some (as_taken e.moment a)
-        row a at = ap (λ (i : Input). nth (after_input settings e.moment i now).tables.queries (suc n)) l
-            ∙ ap (λ (k : ℕ). nth (changed_nth (as_taken e.moment) now.queries k) (suc n)) number ∙ nth-changed (as_taken e.moment) now.queries (suc n) ∙ ap (option_map (as_taken e.moment)) at
-
-        go : (a : QueryRow) × (nth now.queries (suc n) ≡ Some a) → (b : QueryRow) × (nth (tables_of settings (e ∷ g)).queries (suc n) ≡ Some b) × (b.taken ≡ Some e.moment)
-        go (a, at) = later ((rest_stands settings (tables_of settings g) e).queries (suc n) (as_taken e.moment a) (row a at))
-          where
-            later : (c : QueryRow) × (nth (tables_of settings (e ∷ g)).queries (suc n) ≡ Some c) × QueryStands (as_taken e.moment a) c → (b : QueryRow) × (nth (tables_of settings (e ∷ g)).queries (suc n) ≡ Some b) × (b.taken ≡ Some e.moment)
-            later (c, x, s) = (c, x, s.taken e.moment refl)
-
     -- what is told of a running query is recorded
     told_row : (n : ℕ) (given : Answer) → Tells e.input n given → is_running_in (tables_of settings g) n ≡ true →
         (b : QueryRow) × (nth (tables_of settings (e ∷ g)).queries n ≡ Some b) × (b.answer ≡ Some (recorded_answer b.question.kind given, e.moment))
@@ -249,7 +227,7 @@ module _ (settings : Settings) where
 
   of_take : (h : List Entry) (n m : ℕ) → WasTaken settings h n m → (a : QueryRow) → nth (tables_of settings h).queries n ≡ Some a → a.taken ≡ Some m
   of_take h zero m w a is = absurd (none-some a is)
-  of_take h (suc n) m w a is = go (taken_row w.entry w.older n w.is_take w.hands_out)
+  of_take h (suc n) m w a is = go (taken_row settings w.entry w.older n w.is_take w.hands_out)
     where
       go : (b : QueryRow) × (nth (tables_of settings (w.entry ∷ w.older)).queries (suc n) ≡ Some b) × (b.taken ≡ Some w.entry.moment) → a.taken ≡ Some m
       go (b, at, t) = later ((stands_to h w.entry w.older w.among).queries (suc n) b at)

@@ -7,7 +7,7 @@ use Rattle.da_play.proofs.EntryParts.{InputParts, ContinuedParts, an_entry_gives
 use Rattle.da_laws.proofs.Noted.{history_noted}
 use Rattle.da_invariants.proofs.OpenQueries.{nowhere, none_there}
 use Rattle.da_readings.proofs.QueryReadings.{later_among}
-use Rattle.da_invariants.proofs.Standing.{input_stands, continued_stands, due_stand, undecided_is}
+use Rattle.da_steps.proofs.Standing.{input_stands, continued_stands, due_stand, undecided_is}
 use Rattle.da_base.specs.Words.{nth, changed_nth}
 use Rattle.da_fields.specs.declared.answer.Answer.{Answer}
 use Rattle.da_play.specs.History.{tables_of, after}
@@ -17,7 +17,7 @@ use Rattle.da_request.specs.Requests.{new_request, with_text}
 use Rattle.da_request.specs.Requests.{with_answer, with_late_answer}
 use Rattle.da_readings.specs.RowReadings.{WasDecided, WasReplied, DecidedIsFirst, RepliedIsFirst}
 use Rattle.da_request.specs.Requests.{is_undecided, is_pending, is_due, is_held, decision}
-use Rattle.da_invariants.specs.StandingLaws.{TablesStand, RequestStands}
+use Rattle.da_steps.specs.Standing.{TablesStand, RequestStands}
 use Rattle.da_tables.specs.Tables.{with_end}
 use Rattle.da_request.specs.Requests.{cancelled, as_cancelled_of, is_of}
 use Rattle.da_play.specs.declared.input.Entry.{Entry}

@@ -1,5 +1,5 @@
 -- Laws that read the tables as sentences on the history.
-use Rattle.std.specs.Prelude.{◌≡◌, ℕ, Bool, true, false, List, [], ◌∷◌, ◌++◌, Option, Some, None, is_some, ◌==◌}
+use Rattle.std.specs.Prelude.{◌≡◌, ℕ, true, false, List, [], ◌∷◌, ◌++◌, Some, None, is_some, ◌==◌}
 use Rattle.std.specs.List.{list_any}
 use Rattle.da_base.specs.Words.{nth, passes_option}
 use Rattle.da_fields.specs.declared.answer.Answer.{Answer}
@@ -7,14 +7,14 @@ use Rattle.da_answers.specs.RecordedAnswers.{recorded_answer}
 use Rattle.da_play.specs.Effects.{effects}
 use Rattle.da_play.specs.History.{Tells, tables_of}
 use Rattle.da_play.specs.declared.input.Entry.{Entry}
-use Rattle.da_play.specs.declared.input.Input.{Input}
-use Rattle.da_play.specs.declared.input.Input.TheVariants.{Gone, Take}
+use Rattle.da_play.specs.declared.input.Input.TheVariants.{Take}
 use Rattle.da_request.specs.Requests.{decision}
 use Rattle.da_request.specs.declared.request.Request.{Request}
 use Rattle.da_settings.specs.declared.settings.Settings.{Settings}
 use Rattle.da_tables.specs.Queries.{is_running_in, is_waiting, running, waiting}
 use Rattle.da_tables.specs.Tables.{is_open_in}
 use Rattle.da_tables.specs.declared.queries.QueryRow.{QueryRow}
+use Rattle.da_steps.specs.Connections.{ends}
 
 -- an entry of a history, and the entries before it
 pub record Among (h : List Entry) (entry : Entry) (older : List Entry) : Type 0 where
@@ -96,15 +96,6 @@ abbrev pub QueriesAreRead : Type 0
 QueriesAreRead = (settings : Settings) → TakenIsHandedOut settings × AnsweredIsTold settings × ListsAreWhole settings
 
 -- ---- connections
-
--- the input, with the connection that the server closes at it, ends this connection
-abbrev pub ends_by : Input → Option ℕ → ℕ → Bool
-ends_by (Gone c) closed conn = c == conn
-ends_by _ closed conn = passes_option (λ n. n == conn) closed
-
--- the entry ends this connection: it is told, or a line is sent that may not stand there
-abbrev pub ends : Settings → List Entry → Entry → ℕ → Bool
-ends settings g e conn = ends_by e.input (effects settings (tables_of settings g) e).closed conn
 
 -- none of these entries after a history ends this connection
 abbrev pub NoneEnds : Settings → List Entry → List Entry → ℕ → Type 0

@@ -13,7 +13,7 @@ use Rattle.da_play.specs.declared.outputs.Refused.TheVariants.{ConnLimit, Histor
 use Rattle.da_port.proofs.Causes.{full_where_told, refused_replies}
 use Rattle.da_port.specs.Calls.{PortSeat, Refuses}
 use Rattle.da_port.specs.declared.terms.Terms.{Terms}
-use Rattle.da_readings.proofs.ConnectionReadings.{open_step}
+use Rattle.da_steps.proofs.OpenSteps.{open_step}
 use Rattle.da_session.specs.Reading.{IsNotOpen}
 use Rattle.da_session.specs.Bridges.{IsRecorded, TakesStep, step_after}
 use Rattle.da_settings.specs.declared.settings.Settings.{Settings}

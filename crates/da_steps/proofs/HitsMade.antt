@@ -8,7 +8,6 @@ use Rattle.da_keys.specs.Keys.{has_key}
 use Rattle.da_fields.specs.Answers.{Answers}
 use Rattle.da_fields.specs.declared.answer.Answer.{Answer}
 use Rattle.da_fields.specs.declared.answer.Answer.TheVariants.{Mismatch}
-use Rattle.da_laws.specs.HitLaws.{HitsAreHits}
 use Rattle.da_answers.specs.Hits.{AreHits, hits_from, hit_for, with_hit, answer_of, is_usable, is_usable_answer, newest}
 use Rattle.da_request.specs.Requests.{with_answer}
 use Rattle.da_answers.specs.RecordedAnswers.{key_of}
@@ -21,8 +20,8 @@ use Rattle.da_request.specs.declared.stages.Question.{Question}
 use Rattle.da_request.specs.declared.request.Request.{Request}
 use Rattle.da_tables.specs.declared.tables.Tables.{Tables}
 use Rattle.da_answers.specs.Hits.{database_count}
-use Rattle.da_laws.proofs.UsableLemmas.{hit_is_usable, usable_is_hit}
-use Rattle.da_laws.proofs.AskedDatabases.{is_open, with_one, open_count, at_most, fewer, numbers, user_numbers, body_numbers, request_asks}
+use Rattle.da_steps.proofs.UsableLemmas.{hit_is_usable, usable_is_hit}
+use Rattle.da_steps.proofs.AskedDatabases.{is_open, with_one, open_count, at_most, fewer, numbers, user_numbers, body_numbers, request_asks}
 
 -- ---- a hit has an answer
 
@@ -116,7 +115,7 @@ made_are_hits : (settings : Settings) (moment : ℕ) (tables : Tables) (r : Requ
 made_are_hits settings moment tables r [] m = λ q e n u. none-some n (sym (m q e) ∙ usable_is_hit settings moment tables r q n u)
 made_are_hits settings moment tables r (n ∷ ns) m = (m.0, m.1, hit_is_usable settings moment tables r m.0 n m.2, made_are_hits settings moment tables (with_hit tables m.0 n r) ns m.3)
 
-pub hits_are_hits : HitsAreHits
+pub hits_are_hits : (settings : Settings) (moment : ℕ) (tables : Tables) (r : Request) → AreHits settings moment tables r (hits_from (database_count settings) settings moment tables r)
 hits_are_hits settings moment tables r =
     made_are_hits settings moment tables r (hits_from (database_count settings) settings moment tables r)
     (hits_made (database_count settings) settings moment tables r (enough settings r.answers r.body))
