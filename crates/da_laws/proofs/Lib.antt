@@ -5,6 +5,7 @@ pub mod Entries
 pub mod GrantLaw
 pub mod GrantStands
 pub mod GrantedOnce
+pub mod HintLaw
 pub mod HitsLaw
 pub mod LegalLaw
 pub mod LineLaw

@@ -1,6 +1,6 @@
 // Laws of the sequential server: each is a contract, and its function does nothing.
 
-ghost use Rattle.da_laws.specs.ComparisonLaws.{ComparisonsAreOfPasswords, HintsAreCompared};
+ghost use Rattle.da_laws.specs.ComparisonLaws.{ComparisonsAreOfPasswords, HintsAreCompared, HintsAreTheFirst};
 ghost use Rattle.da_laws.specs.EndLaws.{WireIsClosed, FullStaysFull, OverIsClosed};
 ghost use Rattle.da_laws.specs.GrantLaws.{GrantedAtMostOnce, UserWasGranted, GrantsStand};
 ghost use Rattle.da_laws.specs.HitLaws.{HitsAreUnique, HitsAreHits};
@@ -113,6 +113,13 @@ pub fn comparisons_are_of_passwords()
 /// What a hint names is compared by the entry that it is for, which isn't refused.
 pub fn hints_are_compared()
     ensures { HintsAreCompared }
+{}
+
+/// A hint is there exactly where the entry that it is for isn't refused and compares something, and names what that entry
+/// compares first: of the answer that it records, for the request of its query, else of known answers for the request that
+/// it continues, from hit to hit.
+pub fn hints_are_the_first()
+    ensures { HintsAreTheFirst }
 {}
 
 /// A legal history is the one that its own script plays.

@@ -23,6 +23,10 @@ her_password = Found (codes "{PLAIN}pw") []
 abbrev pub asked_once : List Event
 asked_once = introduced 1 2 3 ++ (line 10 1 (plain_login 1 alice) ∷ (10, Take) ∷ [])
 
+-- a second login with a wrong password is open beside it, and both queries run
+abbrev pub asked_by_two : List Event
+asked_by_two = asked_once ++ (line 11 1 (plain_login 2 alice_with_no) ∷ (11, Take) ∷ [])
+
 -- her password is told at 20
 abbrev pub told_once : List Event
 told_once = asked_once ++ (answer 20 1 her_password ∷ [])

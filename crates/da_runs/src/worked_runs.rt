@@ -11,7 +11,7 @@ ghost use Rattle.da_runs.specs.RunsOfLateAnswers.{given_up, given_up_replies, ca
 ghost use Rattle.da_runs.specs.RunsOfLogins.{right_login, right_login_replies, login_settings, name_and_password, name_and_password_replies};
 ghost use Rattle.da_runs.specs.RunsOfMasterLogins.{with_masters, bob_is_unknown, bob_is_unknown_replies, bob_is_there, bob_is_there_replies};
 ghost use Rattle.da_runs.specs.RunsOfScram.{scram_settings, keys_told, keys_told_replies, digest_told, digest_told_replies};
-ghost use Rattle.da_runs.specs.RunsOfTheCache.{one_second, told_again, told_again_replies, asked_once, told_once, told_twice, her_password, compared, stored_pw};
+ghost use Rattle.da_runs.specs.RunsOfTheCache.{one_second, told_again, told_again_replies, asked_once, asked_by_two, told_once, told_twice, her_password, compared, stored_pw};
 ghost use Rattle.da_settings.specs.DefaultSettings.{default_settings};
 
 /// A login by PLAIN whose password is right is told so at once; one by LOGIN is asked for a name, then for a password.
@@ -58,12 +58,15 @@ pub fn answers_are_used_again()
 {}
 
 /// What is compared at an entry is the stored password of the answer that it records, or of the known one within its ttl,
-/// even where that one may not be used again.
+/// even where that one may not be used again; and with the password of the login whose query is answered, whichever other
+/// login is open.
 pub fn known_answers_are_compared()
     ensures recorded { compared asked_once (answer 20 1 her_password) ≡ Some (stored_pw, codes "pw") }
     ensures used_again { compared told_once (line 1020 1 (plain_login 2 alice)) ≡ Some (stored_pw, codes "pw") }
     ensures past_its_ttl { compared told_once (line 1021 1 (plain_login 2 alice)) ≡ None }
     ensures asked_anew { compared told_twice (line 1022 1 (plain_login 4 alice_with_no)) ≡ Some (stored_pw, codes "no") }
+    ensures of_the_first { compared asked_by_two (answer 20 1 her_password) ≡ Some (stored_pw, codes "pw") }
+    ensures of_the_second { compared asked_by_two (answer 20 2 her_password) ≡ Some (stored_pw, codes "no") }
 {}
 
 /// A failure is told after the delay and not before, unless it is cancelled in time or its answer asks for no delay, and

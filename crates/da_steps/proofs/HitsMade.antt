@@ -63,10 +63,10 @@ AreMade settings moment tables r (n ∷ ns) =
 
 -- ---- the hits come to an end
 
-abbrev open_of : Settings → Request → ℕ
+abbrev pub open_of : Settings → Request → ℕ
 open_of settings r = open_count r.answers (body_numbers settings r.body)
 
-hit_leaves_fewer : (settings : Settings) (moment : ℕ) (tables : Tables) (r : Request) (q : Question) (n : ℕ) → question_in (request_stage settings r) ≡ Some q → hit_for settings moment tables r q ≡ Some n → open_of settings (with_hit tables q n r) + 1 ≤ open_of settings r
+pub hit_leaves_fewer : (settings : Settings) (moment : ℕ) (tables : Tables) (r : Request) (q : Question) (n : ℕ) → question_in (request_stage settings r) ≡ Some q → hit_for settings moment tables r q ≡ Some n → open_of settings (with_hit tables q n r) + 1 ≤ open_of settings r
 unfolding with_one
 hit_leaves_fewer settings moment tables r q n e h =
     let found : (a : Answer) × (answer_of tables n ≡ Some a) = usable_answer settings moment tables r q n (hit_usable settings moment tables r q n h) in
@@ -100,7 +100,8 @@ within answers (n ∷ ns) =
     let rest : open_count answers ns ≤ length ns = within answers ns in
     omega (arith, first, rest)
 
-enough : (settings : Settings) (answers : Answers) (b : Body) → open_count answers (body_numbers settings b) ≤ length settings.passdb + length settings.userdb
+-- a chain asks each database once at most
+pub enough : (settings : Settings) (answers : Answers) (b : Body) → open_count answers (body_numbers settings b) ≤ length settings.passdb + length settings.userdb
 enough settings answers (Authenticates mechanism parameters resp texts) =
     let few : open_count answers (numbers settings.passdb) ≤ length (numbers settings.passdb) = within answers (numbers settings.passdb) in
     let same : length (numbers settings.passdb) ≡ length settings.passdb = length-map settings.passdb _ in

@@ -34,3 +34,11 @@ returns-clause-past_its_ttl c = refl
 pub returns-clause-asked_anew : goal.returns-clause-asked_anew
 unfolding digits groups_error groups_bytes scan_steps client_message greeting reply_line filter_matches stored_password matches plain_says outcome password_comparison password_compared move login_chain default_settings said names opening attempt_stage request_stage login_of decision reply_delay is_due is_usable with_due_replied after_input after_stage after due_requests effects refusal hits next_entry outputs entry_compares hint
 returns-clause-asked_anew c = refl
+
+pub returns-clause-of_the_first : goal.returns-clause-of_the_first
+unfolding digits groups_error groups_bytes scan_steps client_message greeting reply_line filter_matches stored_password matches plain_says outcome password_comparison password_compared move login_chain default_settings said names opening attempt_stage request_stage login_of decision reply_delay is_due is_usable with_due_replied after_input after_stage after due_requests effects refusal hits next_entry outputs entry_compares hint
+returns-clause-of_the_first c = refl
+
+pub returns-clause-of_the_second : goal.returns-clause-of_the_second
+unfolding digits groups_error groups_bytes scan_steps client_message greeting reply_line filter_matches stored_password matches plain_says outcome password_comparison password_compared move login_chain default_settings said names opening attempt_stage request_stage login_of decision reply_delay is_due is_usable with_due_replied after_input after_stage after due_requests effects refusal hits next_entry outputs entry_compares hint
+returns-clause-of_the_second c = refl
