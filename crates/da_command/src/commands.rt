@@ -14,17 +14,9 @@ pub enum Command {
     Worker,
     /// Makes the stored form of a password.
     Pw,
-    /// Serves connections.
-    Serve,
 }
 
-const COMMANDS: [Command; 5] = [
-    Command::Drive,
-    Command::Check,
-    Command::Worker,
-    Command::Pw,
-    Command::Serve,
-];
+const COMMANDS: [Command; 4] = [Command::Drive, Command::Check, Command::Worker, Command::Pw];
 
 impl Command {
     fn name(self) -> &'static [u8]
@@ -35,7 +27,6 @@ impl Command {
             Command::Check => b"check",
             Command::Worker => b"worker",
             Command::Pw => b"pw",
-            Command::Serve => b"serve",
         }
     }
 

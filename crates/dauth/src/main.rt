@@ -3,32 +3,21 @@
 #![tactic(auto)]
 
 mod adapters;
-mod clock;
 mod programs;
 mod random;
 #[cfg(test)]
-mod service_tests;
-mod sockets;
-mod staff;
-#[cfg(test)]
 mod tests;
-mod usage;
 mod workers;
 
 use adapters::{Disk, Input, Output};
-use clock::{Nap, Now};
 use da_app::{Command, Status, command, run_check, run_drive, run_pw, run_worker};
-use da_serve::run_serve;
 use random::Random;
-use sockets::Socket;
-use staff::Staff;
 use std::alloc::{AllocError, Global};
 use std::env;
 use std::io::{self, Write};
 use std::os::fd::AsRawFd;
 use std::process::ExitCode;
 use std::rt::Env;
-use usage::usage_text;
 
 /// The exit code where the program can't begin its work.
 const CANNOT_START: u8 = 70;
@@ -69,65 +58,26 @@ fn run(rt: &HostRuntime, words: &[String]) -> io::Result<Status> {
             let mut rand = Random::new(rt)?;
             Ok(run_pw(alloc, words, &mut input, &mut output, &mut rand))
         }
-        Some(Command::Drive) | Some(Command::Serve) | None => {
+        Some(Command::Drive) | None => {
             Ok(run_drive(alloc, words, &mut files, &mut input, &mut output))
         }
     }
 }
 
-/// The exit code where the program can't begin its work, which it tells.
-fn cannot_start<W: Write>(to: &mut W) -> ExitCode {
-    let _ = complain(to, b"cannot start");
-    ExitCode::from(CANNOT_START)
-}
-
-/// Tells how the program is used, where there is memory for that.
-fn tell_usage<W: Write>(alloc: Global, to: &mut W) {
-    if let Ok(text) = usage_text(alloc) {
-        let _ = to.write_all(text.as_bytes());
-    }
-}
-
-/// Tells a status, and answers its exit code.
-fn end<W: Write>(alloc: Global, to: &mut W, status: &Status) -> ExitCode {
-    tell(alloc, to, status);
-    if let Status::Usage = status {
-        tell_usage(alloc, to);
-    }
-    ExitCode::from(status.code())
+/// Runs the command, and tells its status.
+fn start(rt: &HostRuntime) -> io::Result<Status> {
+    let words = words(rt)?;
+    let status = run(rt, &words)?;
+    tell(rt.alloc(), &mut rt.stderr(), &status);
+    Ok(status)
 }
 
 fn main(rt: HostRuntime) -> ExitCode {
-    let Ok(words) = words(&rt) else {
-        return cannot_start(&mut rt.stderr());
-    };
-    let alloc = rt.alloc();
-    let Some(Command::Serve) = command(&words) else {
-        return match run(&rt, &words) {
-            Ok(status) => end(alloc, &mut rt.stderr(), &status),
-            Err(_) => cannot_start(&mut rt.stderr()),
-        };
-    };
-    // Only `main` itself may hand on the leave to start threads.
-    let Ok(mut rand) = Random::new(&rt) else {
-        return cannot_start(&mut rt.stderr());
-    };
-    let mut clients = Socket::new(&rt);
-    let mut masters = Socket::new(&rt);
-    let status = run_serve(
-        &rt,
-        alloc,
-        &words,
-        &mut Disk::new(&rt),
-        &mut clients,
-        &mut masters,
-        &mut Staff::new(&rt),
-        &Now::new(&rt),
-        &mut rand,
-        &Nap::new(&rt),
-        &mut Output::new(rt.stdout().as_raw_fd()),
-    );
-    clients.close();
-    masters.close();
-    end(alloc, &mut rt.stderr(), &status)
+    match start(&rt) {
+        Ok(status) => ExitCode::from(status.code()),
+        Err(_) => {
+            let _ = complain(&mut rt.stderr(), b"cannot start");
+            ExitCode::from(CANNOT_START)
+        }
+    }
 }
