@@ -3,21 +3,39 @@
 #![tactic(auto)]
 
 mod adapters;
+mod children;
+mod complaints;
+mod limits;
+mod lines;
+mod patient;
 mod programs;
 mod random;
+mod shown;
 #[cfg(test)]
 mod tests;
+#[cfg(test)]
+mod tests_of_children;
+#[cfg(test)]
+mod tests_of_commands;
+#[cfg(test)]
+mod tests_of_reads;
 mod workers;
 
+ghost use Rattle.std.specs.Prelude.{◌≡◌};
+ghost use Rattle.std.specs.Process.{exit_status};
+ghost use Rattle.da_command.specs.Statuses.{status_code};
+
 use adapters::{Disk, Input, Output};
+use complaints::{complain, tell};
 use da_app::{Command, Status, command, run_check, run_drive, run_pw, run_worker};
+use da_outside::{Sink, Source};
 use random::Random;
-use std::alloc::{AllocError, Global};
-use std::env;
-use std::io::{self, Write};
+use std::alloc::Global;
 use std::os::fd::AsRawFd;
 use std::process::ExitCode;
-use std::rt::Env;
+use std::random::RandomSource;
+use std::rt::{Env, Files};
+use std::{env, io};
 
 /// The exit code where the program can't begin its work.
 const CANNOT_START: u8 = 70;
@@ -29,54 +47,60 @@ fn words<R: Env + AllocGlobal>(rt: &R) -> io::Result<Vec<String>> {
     Ok(words.collect(rt.alloc())?)
 }
 
-fn complain<W: Write>(to: &mut W, words: &[u8]) -> io::Result<()> {
-    to.write_all(b"dauth: ")?;
-    to.write_all(words)?;
-    to.write_all(b"\n")
-}
-
-/// Tells the words of a status, if it has any. Where no memory is left for them, that is told.
-fn tell<W: Write>(alloc: Global, to: &mut W, status: &Status) {
-    let reported = match status.words(alloc) {
-        Ok(words) if words.is_empty() => Ok(()),
-        Ok(words) => complain(to, &words),
-        Err(AllocError) => complain(to, b"no memory"),
-    };
-    let _ = reported;
+/// The word after a command's name, which of those that read settings is the path of these.
+fn path(words: &[String]) -> &[u8] {
+    match words {
+        [_, path, ..] => path.as_bytes(),
+        _ => b"",
+    }
 }
 
 /// Makes the call of the command that the words name. An error where the random source can't be had.
-fn run(rt: &HostRuntime, words: &[String]) -> io::Result<Status> {
-    let alloc = rt.alloc();
-    let mut input = Input::new(rt.stdin());
-    let mut output = Output::new(rt.stdout().as_raw_fd());
-    let mut files = Disk::new(rt);
+fn run<R: Files + RandomSource, S: Source, K: Sink>(
+    rt: &R,
+    alloc: Global,
+    words: &[String],
+    input: &mut S,
+    output: &mut K,
+) -> io::Result<Status> {
+    let mut files = Disk::new(rt, path(words));
     match command(words) {
-        Some(Command::Check) => Ok(run_check(alloc, words, &mut files, &mut output)),
-        Some(Command::Worker) => Ok(run_worker(alloc, words, &mut files, &mut input, &mut output)),
+        Some(Command::Check) => Ok(run_check(alloc, words, &mut files, output)),
+        Some(Command::Worker) => Ok(run_worker(alloc, words, &mut files, input, output)),
         Some(Command::Pw) => {
             let mut rand = Random::new(rt)?;
-            Ok(run_pw(alloc, words, &mut input, &mut output, &mut rand))
+            Ok(run_pw(alloc, words, input, output, &mut rand))
         }
-        Some(Command::Drive) | None => {
-            Ok(run_drive(alloc, words, &mut files, &mut input, &mut output))
-        }
+        Some(Command::Drive) | None => Ok(run_drive(alloc, words, &mut files, input, output)),
     }
 }
 
 /// Runs the command, and tells its status.
 fn start(rt: &HostRuntime) -> io::Result<Status> {
     let words = words(rt)?;
-    let status = run(rt, &words)?;
-    tell(rt.alloc(), &mut rt.stderr(), &status);
+    let mut input = Input::new(rt.stdin());
+    let mut output = Output::new(rt.stdout().as_raw_fd());
+    let status = run(rt, rt.alloc(), &words, &mut input, &mut output)?;
+    tell(
+        rt.alloc(),
+        &mut Output::new(rt.stderr().as_raw_fd()),
+        &status,
+    );
     Ok(status)
+}
+
+fn end(status: &Status) -> ExitCode
+    ensures { exit_status result ≡ status_code status.now }
+{
+    ExitCode::from(status.code())
 }
 
 fn main(rt: HostRuntime) -> ExitCode {
     match start(&rt) {
-        Ok(status) => ExitCode::from(status.code()),
+        Ok(status) => end(&status),
         Err(_) => {
-            let _ = complain(&mut rt.stderr(), b"cannot start");
+            let mut output = Output::new(rt.stderr().as_raw_fd());
+            let _ = complain(&mut output, b"cannot start");
             ExitCode::from(CANNOT_START)
         }
     }

@@ -1,12 +1,19 @@
 // Checkpassword programs, each run by the shell.
 
-ghost use Rattle.std.specs.Prelude.{◌≡◌, ◌≤◌, None, IfOk, IsErrOf, vec_len, length};
+ghost use Rattle.std.specs.Prelude.{◌≡◌, ◌≤◌, None, IfOk, IfSome, IsErrOf, OnOk, pos, vec_len, length};
+ghost use Rattle.std.specs.Io.KnownBytes.{IsAtEnd};
+ghost use Rattle.std.specs.Process.{exit_code};
+ghost use Rattle.dauth.specs.Reads.{IsFrontOfAll, WritesFront};
 
+use crate::children::{Started, Starts, fault_of, start};
+use crate::limits::{Deadline, Limit};
+use crate::patient::{Patient, Quiet, read_on};
 use da_outside::{Bytes, Exit, GetFault, Runner};
 use std::alloc::{AllocError, Global};
-use std::io::{ErrorKind, Read, Write};
-use std::process::{Child, Command, ExitStatus, OpenProcess, Processes, Stdio};
-use std::{io, str};
+use std::io::{self, ErrorKind, PipeReader, PipeWriter, Read, Write};
+use std::os::fd::AsRawFd;
+use std::process::{Command, ExitStatus};
+use std::str;
 
 /// What the shell runs for a program, which is its `$0`. The program has its input on descriptor 3 and replies on
 /// descriptor 4; its own standard output goes to standard error. A program to which the password is right runs its
@@ -21,24 +28,31 @@ const NO_STATUS: u32 = 256;
 const LONGEST_REPLY: usize = 8194;
 
 /// The programs of the system. The input is written before the reply is read, so it has to fit a pipe. A run fails where
-/// the path is no text, the shell can't be started, or its pipes or its end fail; then no child is left.
+/// the path is no text, the shell can't be started, its pipes or its end fail, or it isn't over within the limit; then no
+/// child is left.
 #[derive(Drop)]
 pub struct Programs<'a, R> {
     rt: &'a R,
+    limit: u64,
     faults: u64,
 }
 
-impl<'a, R: Processes> Programs<'a, R> {
-    pub fn new(rt: &'a R) -> Self {
-        Programs { rt, faults: 0 }
+impl<'a, R: Starts> Programs<'a, R> {
+    /// Each run may take so many milliseconds.
+    pub fn new(rt: &'a R, limit: u64) -> Self {
+        Programs {
+            rt,
+            limit,
+            faults: 0,
+        }
     }
 }
 
-impl<'a, R: Processes> Runner for Programs<'a, R> {
+impl<'a, R: Starts> Runner for Programs<'a, R> {
     ghost state = { λ programs. record { left = None; past = None; faults = programs.faults } };
 
     fn run(&mut self, alloc: Global, program: &[u8], input: &[u8]) -> Result<Exit, GetFault> {
-        let answer = run_program(self.rt, alloc, program, input);
+        let answer = run_program(self.rt, alloc, self.limit, program, input);
         if let Err(GetFault::Failed) = answer {
             self.faults = self.faults.saturating_add(1);
         }
@@ -46,96 +60,96 @@ impl<'a, R: Processes> Runner for Programs<'a, R> {
     }
 }
 
-fn run_program<R: Processes>(
+fn run_program<R: Starts>(
     rt: &R,
     alloc: Global,
+    limit: u64,
     program: &[u8],
     input: &[u8],
 ) -> Result<Exit, GetFault>
     ensures short { IfOk result (λ exit. length exit.reply ≤ 8194) }
     ensures never_long { IsErrOf result GetFault.Long → ⊥ }
 {
-    let mut child = start(rt, alloc, program)?;
-    let reply = talk(alloc, &mut child, input);
-    if reply.is_err() {
-        let _ = child.kill();
-    }
-    let ended = child.wait();
-    let reply = Bytes::new(reply?);
-    match ended {
-        Ok(status) => Ok(Exit {
-            status: number_of(status),
-            reply,
-        }),
-        Err(_) => Err(GetFault::Failed),
-    }
+    let deadline = Deadline::after(rt, limit).map_err(fault_of)?;
+    let Started {
+        mut running,
+        to,
+        from,
+    } = start_program(rt, alloc, program)?;
+    let reply = Bytes::new(talk(alloc, to, from, input, &deadline)?);
+    let status = running.wait(&deadline).map_err(fault_of)?;
+    Ok(Exit {
+        status: number_of(status),
+        reply,
+    })
 }
 
-fn start<R: Processes>(rt: &R, alloc: Global, program: &[u8]) -> Result<Child<R::Started>, GetFault>
+fn start_program<'a, R: Starts>(
+    rt: &'a R,
+    alloc: Global,
+    program: &[u8],
+) -> Result<Started<'a, R>, GetFault>
     ensures never_long { IsErrOf result GetFault.Long → ⊥ }
 {
     let Ok(program) = str::from_utf8(program) else {
         return Err(GetFault::Failed);
     };
     let mut command = shell(alloc, program)?;
-    command.spawn(rt).map_err(fault_of)
+    start(rt, alloc, &mut command).map_err(fault_of)
 }
 
 fn shell(alloc: Global, program: &str) -> Result<Command, AllocError> {
     let mut command = Command::new(alloc, "sh")?;
     command.arg("-c")?.arg(SCRIPT)?.arg(program)?;
-    command.stdin(Stdio::piped()).stdout(Stdio::piped());
     Ok(command)
 }
 
-/// Why a child can't be started or talked to.
-pub(crate) fn fault_of(error: io::Error) -> GetFault
-    ensures { result ≡ GetFault.Long → ⊥ }
-{
-    if error.kind() == ErrorKind::OutOfMemory {
-        GetFault::NoMemory
-    } else {
-        GetFault::Failed
-    }
-}
-
 // Tells the program its input, and gives its reply. Both pipes are closed then.
-fn talk<P: OpenProcess>(
+fn talk<L: Limit>(
     alloc: Global,
-    child: &mut Child<P>,
+    to: PipeWriter,
+    from: PipeReader,
     input: &[u8],
+    limit: &L,
 ) -> Result<Vec<u8>, GetFault>
     ensures short { IfOk result (λ reply. vec_len reply ≤ 8194) }
     ensures never_long { IsErrOf result GetFault.Long → ⊥ }
 {
-    let (Some(mut stdin), Some(mut stdout)) = (child.stdin.take(), child.stdout.take()) else {
-        return Err(GetFault::Failed);
-    };
-    tell(&mut stdin, input)?;
-    drop(stdin);
-    hear(alloc, &mut stdout)
+    let fd = to.as_raw_fd();
+    tell(&mut Patient::new(Quiet::new(fd), fd, limit), input)?;
+    drop(to);
+    let fd = from.as_raw_fd();
+    hear(alloc, &mut Patient::new(from, fd, limit))
 }
 
-// A program that ends without having read its input is no fault.
+// Writes the input. A program that ends without having read all of it is no fault.
 fn tell<W: Write>(to: &mut W, input: &[u8]) -> Result<(), GetFault>
+    ensures front { WritesFront (W.contents to.old) (W.contents to.new) input.now }
     ensures never_long { IsErrOf result GetFault.Long → ⊥ }
 {
-    match to.write_all(input) {
-        Ok(()) => Ok(()),
-        Err(error) if error.kind() == ErrorKind::BrokenPipe => Ok(()),
-        Err(error) => Err(fault_of(error)),
+    let mut rest = input;
+    while !rest.is_empty() {
+        match to.write(rest) {
+            Ok(0) => return Err(GetFault::Failed),
+            Ok(count) => rest = &rest[count..],
+            Err(error) if error.kind() == ErrorKind::BrokenPipe => return Ok(()),
+            Err(error) => return Err(fault_of(error)),
+        }
     }
+    Ok(())
 }
 
 // The front of what comes. All of it is read, so that no program waits for a reader.
 fn hear<R: Read>(alloc: Global, from: &mut R) -> Result<Vec<u8>, GetFault>
     ensures short { IfOk result (λ reply. vec_len reply ≤ 8194) }
+    ensures whole { OnOk result (IsAtEnd (R.remaining from.new)) }
+    ensures bytes { IfOk result (λ reply. IsFrontOfAll (R.remaining from.old) (R.remaining from.new) reply.items) }
     ensures never_long { IsErrOf result GetFault.Long → ⊥ }
 {
     let mut reply = Vec::new(alloc);
     let mut chunk = [0; 4096];
     for _ in 0..u64::MAX {
-        match from.read(&mut chunk) {
+        match read_on(from, &mut chunk) {
             Ok(0) => return Ok(reply),
             Ok(count) => {
                 let kept = count.min(LONGEST_REPLY - reply.len());
@@ -147,7 +161,11 @@ fn hear<R: Read>(alloc: Global, from: &mut R) -> Result<Vec<u8>, GetFault>
     Err(GetFault::Failed)
 }
 
-fn number_of(status: ExitStatus) -> u32 {
+// A signal has no status, and that is none that a program could end with.
+fn number_of(status: ExitStatus) -> u32
+    ensures code { IfSome (exit_code status) (λ code. pos result ≡ code) }
+    ensures signal { exit_code status ≡ None → result ≡ 256 }
+{
     match status.code() {
         Some(code) => code.unsigned_abs(),
         None => NO_STATUS,

@@ -1,20 +1,23 @@
 // Programs and workers of the system.
 
+use crate::children::Starts;
 use crate::programs::Programs;
 use crate::workers::Workers;
 use da_child::check;
 use da_fields::{Answer, Why};
 use da_outside::{Link, Spawner};
 use std::alloc::{AllocError, Global};
-use std::process::Processes;
 use std::test::Fail;
 use std::{fs, io};
+
+// So many milliseconds may a program and a worker take.
+const LIMIT: u64 = 10_000;
 
 // A program that sets the user's home, and then runs its arguments.
 const SETS_HOME: &[u8] =
     b"cat <&3 >/dev/null\nHOME=/home/alice\nexport HOME\nexec /bin/sh \"$@\"\n";
 
-fn answer_of<R: Processes>(
+fn answer_of<R: Starts>(
     alloc: Global,
     programs: &mut Programs<'_, R>,
     program: &[u8],
@@ -34,7 +37,7 @@ fn has_passed_with(answer: &Answer, key: &[u8], value: &[u8]) -> bool {
 fn a_program_says_whether_the_password_is_right(rt: HostRuntime) -> Result<(), Fail> {
     let alloc = rt.alloc();
     fs::write(&rt, "sh", SETS_HOME)?;
-    let mut programs = Programs::new(&rt);
+    let mut programs = Programs::new(&rt, LIMIT);
     // Its option is none of `cat`.
     let wrong = answer_of(alloc, &mut programs, b"cat")?;
     assert!(rt; matches!(wrong, Answer::Mismatch));
@@ -56,7 +59,7 @@ fn left_open(rt: &HostRuntime) -> io::Result<(usize, String)> {
 #[test]
 fn a_thousand_programs_leave_nothing(rt: HostRuntime) -> Result<(), Fail> {
     let before = left_open(&rt)?;
-    let mut programs = Programs::new(&rt);
+    let mut programs = Programs::new(&rt, LIMIT);
     for _ in 0..1000 {
         let silent = answer_of(rt.alloc(), &mut programs, b"true")?;
         assert!(rt; matches!(silent, Answer::Internal(Why::Malformed)));
@@ -68,7 +71,7 @@ fn a_thousand_programs_leave_nothing(rt: HostRuntime) -> Result<(), Fail> {
 }
 
 // Whether a worker that the command starts answers this line with the same line.
-fn is_repeated<R: Processes>(
+fn is_repeated<R: Starts>(
     alloc: Global,
     workers: &mut Workers<'_, R>,
     command: &[Vec<u8>],
@@ -89,7 +92,7 @@ fn is_repeated<R: Processes>(
 #[test]
 fn a_worker_is_sent_a_line_and_answers(rt: HostRuntime) -> Result<(), Fail> {
     let alloc = rt.alloc();
-    let mut workers = Workers::new(&rt);
+    let mut workers = Workers::new(&rt, LIMIT);
     let cat = vec![in alloc; Vec::from_slice(alloc, b"cat")?]?;
     let query = b"PASS\t1\t1\talice".as_slice();
     assert!(rt; is_repeated(alloc, &mut workers, &cat, query));

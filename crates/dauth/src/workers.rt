@@ -1,93 +1,65 @@
 // Workers, each a child whose standard streams are a link.
 
-ghost use Rattle.std.specs.Prelude.{◌≡◌, ◌<◌, None, IfOk, IsErrOf, OnOk, length};
-ghost use Rattle.da_outside.specs.Link.{IsLine};
+ghost use Rattle.std.specs.Prelude.{◌≡◌, None, IfOk, IsErrOf};
+ghost use Rattle.da_outside.specs.Link.{Receives};
 
-use crate::programs::fault_of;
+use crate::children::{Running, Started, Starts, fault_of, start};
+use crate::limits::Deadline;
+use crate::lines::{Held, write_line};
+use crate::patient::{Patient, Quiet};
 use da_outside::{Failed, GetFault, Link, Spawner};
-use da_tabline::split_at_byte;
-use std::alloc::{AllocError, Global};
-use std::io::{ErrorKind, Read, Write};
-use std::process::{Child, Command, OpenProcess, Processes, Stdio};
-use std::{io, str};
-
-/// The longest line that a link receives, in bytes.
-const LONGEST_LINE: usize = 8192;
-
-const CHUNK: usize = 4096;
+use std::alloc::Global;
+use std::io::{self, PipeReader, PipeWriter};
+use std::os::fd::AsRawFd;
+use std::process::Command;
+use std::str;
 
 /// A link to a child: lines go to its standard input and come from its standard output. An error of either pipe is a
-/// fault, as is the end of what comes in.
+/// fault, as is the end of what comes in, and a line that isn't taken or given in time. Where it is let go, the child is
+/// killed and waited for.
 #[derive(Drop)]
-pub struct ChildLink<P: OpenProcess> {
-    child: Child<P>,
-    held: Vec<u8>,
+pub struct ChildLink<'a, R: Starts> {
+    rt: &'a R,
+    limit: u64,
+    running: Running<'a, R>,
+    to: PipeWriter,
+    from: PipeReader,
+    held: Held,
+    deadline: Option<Deadline<'a, R>>,
     faults: u64,
 }
 
-impl<P: OpenProcess + Drop> ChildLink<P> {
-    // Writes the line and its LF.
-    fn write(&mut self, line: &[u8]) -> io::Result<()>
+impl<'a, R: Starts> ChildLink<'a, R> {
+    // The line has to be taken within the limit, and what then comes has to come within what is left of it.
+    fn tell(&mut self, line: &[u8]) -> io::Result<()>
         ensures { self.new.faults ≡ self.old.faults }
     {
-        let Some(stdin) = &mut self.child.stdin else {
-            return Err(io::Error::from(ErrorKind::BrokenPipe));
+        let deadline = Deadline::after(self.rt, self.limit)?;
+        let fd = self.to.as_raw_fd();
+        write_line(&mut Patient::new(Quiet::new(fd), fd, &deadline), line)?;
+        self.deadline = Some(deadline);
+        Ok(())
+    }
+
+    fn hear(&mut self, alloc: Global) -> Result<Vec<u8>, GetFault>
+        ensures gives { Receives None None result }
+        ensures faults { self.new.faults ≡ self.old.faults }
+    {
+        let deadline = match self.deadline.take() {
+            Some(deadline) => deadline,
+            None => Deadline::after(self.rt, self.limit).map_err(fault_of)?,
         };
-        stdin.write_all(line)?;
-        stdin.write_all(b"\n")
-    }
-
-    // Reads some more bytes.
-    fn fill(&mut self) -> Result<(), GetFault>
-        ensures more { OnOk result (length self.old.held.items < length self.new.held.items) }
-        ensures never_long { IsErrOf result GetFault.Long → ⊥ }
-        ensures faults { self.new.faults ≡ self.old.faults }
-    {
-        let Some(stdout) = &mut self.child.stdout else {
-            return Err(GetFault::Failed);
-        };
-        self.held.reserve(CHUNK)?;
-        let mut chunk = [0; CHUNK];
-        match stdout.read(&mut chunk) {
-            Ok(0) | Err(_) => Err(GetFault::Failed),
-            Ok(count) => Ok(self.held.extend_from_slice(&chunk[..count])?),
-        }
-    }
-
-    // Takes the first line, or the front of one that is too long.
-    fn take_line(&mut self, alloc: Global) -> Result<Vec<u8>, GetFault>
-        ensures line { IfOk result (λ line. IsLine line.items) }
-        ensures faults { self.new.faults ≡ self.old.faults }
-    {
-        match split_at_byte(&self.held, b'\n') {
-            Some((line, _)) if line.len() <= LONGEST_LINE => {
-                let line = line.to_vec(alloc)?;
-                self.held.drain(..=line.len());
-                Ok(line)
-            }
-            _ => {
-                self.held.drain(..self.held.len().min(LONGEST_LINE + 1));
-                Err(GetFault::Long)
-            }
-        }
-    }
-
-    fn next_line(&mut self, alloc: Global) -> Result<Vec<u8>, GetFault>
-        ensures line { IfOk result (λ line. IsLine line.items) }
-        ensures faults { self.new.faults ≡ self.old.faults }
-    {
-        while self.held.len() <= LONGEST_LINE && !self.held.contains(&b'\n') {
-            self.fill()?;
-        }
-        self.take_line(alloc)
+        let fd = self.from.as_raw_fd();
+        let mut from = Patient::new(&self.from, fd, deadline);
+        self.held.next_untold(alloc, &mut from)
     }
 }
 
-impl<P: OpenProcess + Drop> Link for ChildLink<P> {
+impl<'a, R: Starts> Link for ChildLink<'a, R> {
     ghost state = { λ link. record { left = None; talk = None; faults = link.faults } };
 
     fn send(&mut self, line: &[u8]) -> Result<(), Failed> {
-        if self.write(line).is_err() {
+        if self.tell(line).is_err() {
             self.faults = self.faults.saturating_add(1);
             return Err(Failed);
         }
@@ -95,7 +67,7 @@ impl<P: OpenProcess + Drop> Link for ChildLink<P> {
     }
 
     fn receive(&mut self, alloc: Global) -> Result<Vec<u8>, GetFault> {
-        let answer = self.next_line(alloc);
+        let answer = self.hear(alloc);
         if let Err(GetFault::Failed) = answer {
             self.faults = self.faults.saturating_add(1);
         }
@@ -107,64 +79,76 @@ impl<P: OpenProcess + Drop> Link for ChildLink<P> {
 #[derive(Drop)]
 pub struct Workers<'a, R> {
     rt: &'a R,
+    limit: u64,
     faults: u64,
 }
 
-impl<'a, R: Processes> Workers<'a, R> {
-    pub fn new(rt: &'a R) -> Self {
-        Workers { rt, faults: 0 }
+impl<'a, R: Starts> Workers<'a, R> {
+    /// Each exchange over a link may take so many milliseconds.
+    pub fn new(rt: &'a R, limit: u64) -> Self {
+        Workers {
+            rt,
+            limit,
+            faults: 0,
+        }
     }
 }
 
-impl<'a, R: Processes> Spawner for Workers<'a, R> {
-    type Link = ChildLink<R::Started>;
+impl<'a, R: Starts> Spawner for Workers<'a, R> {
+    type Link = ChildLink<'a, R>;
 
     ghost state = { λ workers. record { left = None; past = None; faults = workers.faults } };
 
-    fn start(
-        &mut self,
-        alloc: Global,
-        command: &[Vec<u8>],
-    ) -> Result<ChildLink<R::Started>, GetFault> {
-        let answer = start_link(self.rt, alloc, command);
+    fn start(&mut self, alloc: Global, command: &[Vec<u8>]) -> Result<ChildLink<'a, R>, GetFault> {
+        let answer = start_link(self.rt, alloc, self.limit, command);
         if let Err(GetFault::Failed) = answer {
             self.faults = self.faults.saturating_add(1);
         }
         answer
     }
 
-    fn finish(&mut self, link: ChildLink<R::Started>) {
+    fn finish(&mut self, link: ChildLink<'a, R>) {
         if link.faults > 0 {
             self.faults = self.faults.saturating_add(1);
         }
-        let ChildLink { mut child, .. } = link;
-        let _ = child.kill();
-        let _ = child.wait();
+        drop(link);
     }
 }
 
-fn start_link<R: Processes>(
-    rt: &R,
+fn start_link<'a, R: Starts>(
+    rt: &'a R,
     alloc: Global,
+    limit: u64,
     command: &[Vec<u8>],
-) -> Result<ChildLink<R::Started>, GetFault>
+) -> Result<ChildLink<'a, R>, GetFault>
     ensures never_long { IsErrOf result GetFault.Long → ⊥ }
     ensures fresh { IfOk result (λ link. link.faults ≡ 0) }
 {
-    let [program, arguments @ ..] = command else {
-        return Err(GetFault::Failed);
-    };
-    let mut started = Command::new(alloc, text_of(program)?)?;
-    for argument in arguments {
-        started.arg(text_of(argument)?)?;
-    }
-    started.stdin(Stdio::piped()).stdout(Stdio::piped());
-    let child = started.spawn(rt).map_err(fault_of)?;
+    let mut command = command_of(alloc, command)?;
+    let Started { running, to, from } = start(rt, alloc, &mut command).map_err(fault_of)?;
     Ok(ChildLink {
-        child,
-        held: Vec::new(alloc),
+        rt,
+        limit,
+        running,
+        to,
+        from,
+        held: Held::new(alloc),
+        deadline: None,
         faults: 0,
     })
+}
+
+fn command_of(alloc: Global, words: &[Vec<u8>]) -> Result<Command, GetFault>
+    ensures { IsErrOf result GetFault.Long → ⊥ }
+{
+    let [program, arguments @ ..] = words else {
+        return Err(GetFault::Failed);
+    };
+    let mut command = Command::new(alloc, text_of(program)?)?;
+    for argument in arguments {
+        command.arg(text_of(argument)?)?;
+    }
+    Ok(command)
 }
 
 fn text_of(word: &[u8]) -> Result<&str, GetFault>
