@@ -2,10 +2,12 @@
 #![tactic(auto)]
 
 #[cfg(test)]
-mod history;
+mod client;
+#[cfg(test)]
+mod crew;
 #[cfg(test)]
 mod replay;
 #[cfg(test)]
-mod service;
+mod ticks;
 #[cfg(test)]
 mod waits;

@@ -1,5 +1,5 @@
 use Rattle.da_turn.specs.Seats.{IsFree, IsOf}
-use Rattle.da_port_tests.proofs.history.work.Given as goal
+use Rattle.da_port_tests.proofs.ticks.tick.Given as goal
 
 abbrev pub invariant-loop-number : goal.invariant-loop-number
 invariant-loop-number g l = IsOf l.fn.port l.seat × IsFree l.seat
