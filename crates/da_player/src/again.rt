@@ -1,0 +1,37 @@
+// A server that makes a step once more where it wanted memory.
+
+use crate::script::replies;
+use crate::server::{Server, core_of};
+use da_core::{Core, Input, Outputs, Refused};
+use std::alloc::{AllocError, Global};
+
+#[derive(Drop)]
+struct Repeating {
+    alloc: Global,
+    core: Core,
+}
+
+impl Server for Repeating {
+    fn step(&mut self, moment: u64, input: Input) -> Result<Outputs, Refused> {
+        let Ok(same) = input.copy(self.alloc) else {
+            return Err(Refused::NoMemory);
+        };
+        match self.core.step(moment, input) {
+            Err(Refused::NoMemory) => self.core.step(moment, same),
+            reply => reply,
+        }
+    }
+}
+
+/// What a new `Core` gives out for the events of a script, where each step that wants memory is made once more. `None`
+/// where the text of the settings has a fault.
+pub fn replies_of_core_again(
+    alloc: Global,
+    settings: &[u8],
+    script: &[u8],
+) -> Result<Option<Vec<u8>>, AllocError> {
+    match core_of(alloc, settings, None)? {
+        Some(core) => Ok(Some(replies(alloc, &mut Repeating { alloc, core }, script)?)),
+        None => Ok(None),
+    }
+}
