@@ -228,14 +228,40 @@ fn beside_the_held<R: Threads + Wait + Abort + Sync>(
     settings: &Settings,
     hold: &Hold,
 ) -> (Seat, Seat)
-    requires two { IsOf port.now two × IsFree two × (settings.now ≡ port.now.fixed.settings) }
-    requires client { IsOf port.now client × IsFree client }
+    requires { IsOf port.now two × IsFree two × (settings.now ≡ port.now.fixed.settings)
+        × IsOf port.now client × IsFree client }
     ensures { IsOf port.now result.0 × IsFree result.0 × IsOf port.now result.1 × IsFree result.1 }
 {
     join(
         rt,
         || work_after(rt, alloc, port, two, settings, hold),
         || free_after_reply(rt, port, client, hold),
+    )
+}
+
+// The worker that holds its answer, and the others beside it.
+fn work_as_two<R: Threads + Wait + Abort + Sync>(
+    rt: &R,
+    alloc: Global,
+    port: &Port,
+    one: Seat,
+    two: Seat,
+    client: Seat,
+    settings: &Settings,
+    hold: &Hold,
+) -> (Seat, (Seat, Seat))
+    requires { IsOf port.now one × IsFree one × IsOf port.now two × IsFree two
+        × IsOf port.now client × IsFree client × (settings.now ≡ port.now.fixed.settings) }
+    ensures { IsOf port.now result.0 × IsFree result.0 × IsOf port.now result.1.0 × IsFree result.1.0
+        × IsOf port.now result.1.1 × IsFree result.1.1 }
+{
+    join(
+        rt,
+        || work_held(rt, alloc, port, one, settings, hold),
+        ||
+            requires { IsOf port.now two × IsFree two × (settings.now ≡ port.now.fixed.settings)
+                × IsOf port.now client × IsFree client }
+        { beside_the_held(rt, alloc, port, two, client, settings, hold) },
     )
 }
 
@@ -252,11 +278,7 @@ fn history_of_two<R: Threads + Wait + Abort + Sync>(rt: &R, alloc: Global) -> Ve
     let one = port.split(&mut seat);
     let two = port.split(&mut seat);
     let client = port.split(&mut seat);
-    let (one, (two, client)) = join(
-        rt,
-        || work_held(rt, alloc, &port, one, &settings, &hold),
-        || beside_the_held(rt, alloc, &port, two, client, &settings, &hold),
-    );
+    let (one, (two, client)) = work_as_two(rt, alloc, &port, one, two, client, &settings, &hold);
     port.join(&mut seat, one);
     port.join(&mut seat, two);
     port.join(&mut seat, client);
@@ -322,14 +344,38 @@ fn beside_the_late<R: Threads + Wait + Abort + Sync>(
     client: Seat,
     hold: &Hold,
 ) -> (Seat, Heard)
-    requires clock { IsOf port.now clock × IsFree clock }
-    requires client { IsOf port.now client × IsFree client }
+    requires { IsOf port.now clock × IsFree clock × IsOf port.now client × IsFree client }
     ensures { IsOf port.now result.0 × IsFree result.0 × IsOf port.now result.1.seat × IsFree result.1.seat }
 {
     join(
         rt,
         || let_time_pass(rt, alloc, port, clock, hold),
         || free_too_late(rt, port, client, hold),
+    )
+}
+
+// The worker that holds its answer, with the clock and the client beside it.
+fn work_too_late<R: Threads + Wait + Abort + Sync>(
+    rt: &R,
+    alloc: Global,
+    port: &Port,
+    one: Seat,
+    clock: Seat,
+    client: Seat,
+    settings: &Settings,
+    hold: &Hold,
+) -> (Seat, (Seat, Heard))
+    requires { IsOf port.now one × IsFree one × IsOf port.now clock × IsFree clock
+        × IsOf port.now client × IsFree client × (settings.now ≡ port.now.fixed.settings) }
+    ensures { IsOf port.now result.0 × IsFree result.0 × IsOf port.now result.1.0 × IsFree result.1.0
+        × IsOf port.now result.1.1.seat × IsFree result.1.1.seat }
+{
+    join(
+        rt,
+        || work_held(rt, alloc, port, one, settings, hold),
+        ||
+            requires { IsOf port.now clock × IsFree clock × IsOf port.now client × IsFree client }
+        { beside_the_late(rt, alloc, port, clock, client, hold) },
     )
 }
 
@@ -345,10 +391,8 @@ fn history_of_late<R: Threads + Wait + Abort + Sync>(rt: &R, alloc: Global) -> V
     let one = port.split(&mut seat);
     let clock = port.split(&mut seat);
     let client = port.split(&mut seat);
-    let (one, (clock, heard)) = join(
-        rt,
-        || work_held(rt, alloc, &port, one, &settings, &hold),
-        || beside_the_late(rt, alloc, &port, clock, client, &hold),
+    let (one, (clock, heard)) = work_too_late(
+        rt, alloc, &port, one, clock, client, &settings, &hold,
     );
     assert!(rt; heard.is_right);
     port.join(&mut seat, one);
