@@ -98,8 +98,10 @@ impl<W: Write> Sink for Output<W> {
 pub fn read_whole<R: Read>(alloc: Global, file: &mut R, max: usize) -> Result<Vec<u8>, GetFault>
     ensures short { IfOk result (λ bytes. vec_len bytes ≤ max) }
     ensures whole { OnOk result (IsAtEnd (R.remaining file.new)) }
-    ensures bytes { IfOk result (λ bytes. Consumes (R.remaining file.old) (R.remaining file.new) bytes.items) }
-    ensures long { IsErrOf result GetFault.Long → HasMore max (R.remaining file.old) (R.remaining file.new) }
+    ensures bytes { IfOk result (λ bytes.
+        Consumes (R.remaining file.old) (R.remaining file.new) bytes.items) }
+    ensures long { IsErrOf result GetFault.Long →
+        HasMore max (R.remaining file.old) (R.remaining file.new) }
 {
     let mut bytes = Vec::new(alloc);
     let mut chunk = [0; 4096];

@@ -143,7 +143,8 @@ fn tell<W: Write>(to: &mut W, input: &[u8]) -> Result<(), GetFault>
 fn hear<R: Read>(alloc: Global, from: &mut R) -> Result<Vec<u8>, GetFault>
     ensures short { IfOk result (λ reply. vec_len reply ≤ 8194) }
     ensures whole { OnOk result (IsAtEnd (R.remaining from.new)) }
-    ensures bytes { IfOk result (λ reply. IsFrontOfAll (R.remaining from.old) (R.remaining from.new) reply.items) }
+    ensures bytes { IfOk result (λ reply.
+        IsFrontOfAll (R.remaining from.old) (R.remaining from.new) reply.items) }
     ensures never_long { IsErrOf result GetFault.Long → ⊥ }
 {
     let mut reply = Vec::new(alloc);
