@@ -14,9 +14,17 @@ pub enum Command {
     Worker,
     /// Makes the stored form of a password.
     Pw,
+    /// Serves connections.
+    Serve,
 }
 
-const COMMANDS: [Command; 4] = [Command::Drive, Command::Check, Command::Worker, Command::Pw];
+const COMMANDS: [Command; 5] = [
+    Command::Drive,
+    Command::Check,
+    Command::Worker,
+    Command::Pw,
+    Command::Serve,
+];
 
 impl Command {
     fn name(self) -> &'static [u8]
@@ -27,6 +35,7 @@ impl Command {
             Command::Check => b"check",
             Command::Worker => b"worker",
             Command::Pw => b"pw",
+            Command::Serve => b"serve",
         }
     }
 

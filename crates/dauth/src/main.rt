@@ -71,7 +71,9 @@ fn run<R: Files + RandomSource, S: Source, K: Sink>(
             let mut rand = Random::new(rt)?;
             Ok(run_pw(alloc, words, input, output, &mut rand))
         }
-        Some(Command::Drive) | None => Ok(run_drive(alloc, words, &mut files, input, output)),
+        Some(Command::Drive | Command::Serve) | None => {
+            Ok(run_drive(alloc, words, &mut files, input, output))
+        }
     }
 }
 

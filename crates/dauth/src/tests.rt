@@ -2,6 +2,7 @@
 
 use crate::children::Starts;
 use crate::programs::Programs;
+use crate::usage::usage_text;
 use crate::workers::Workers;
 use da_child::check;
 use da_fields::{Answer, Why};
@@ -97,5 +98,20 @@ fn a_worker_is_sent_a_line_and_answers(rt: HostRuntime) -> Result<(), Fail> {
     let query = b"PASS\t1\t1\talice".as_slice();
     assert!(rt; is_repeated(alloc, &mut workers, &cat, query));
     assert!(rt; !is_repeated(alloc, &mut workers, &[], query));
+    Ok(())
+}
+
+// Whether the text has a line that begins with this word.
+fn has_line_of(text: &[u8], word: &[u8]) -> bool {
+    text.split(|byte| *byte == b'\n')
+        .any(|line| line.trim_ascii_start().starts_with(word))
+}
+
+#[test]
+fn the_usage_names_each_command(rt: HostRuntime) -> Result<(), Fail> {
+    let text = usage_text(rt.alloc())?;
+    for name in b"drive|check|worker|pw|serve".split(|byte| *byte == b'|') {
+        assert!(rt; has_line_of(text.as_bytes(), name));
+    }
     Ok(())
 }
