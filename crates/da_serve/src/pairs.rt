@@ -170,6 +170,94 @@ pub(crate) fn give_idle<'a, R: Wait, S: Source + Drop, K: Sink + Drop>(
     Some((source, sink))
 }
 
+// Starts the thread of a pair that writes. Where it can't be started the desks are closed.
+fn start_writer<
+    's,
+    E,
+    R: Threads + Wait + Sync,
+    S: Source + Send + Drop + 's,
+    K: Sink + Send + Drop + 's,
+    Z: Pause + Sync,
+>(
+    scope: &Scope<'s, E>,
+    rt: &'s R,
+    port: &'s Port,
+    seat: &mut Seat,
+    desks: &Desks<S, K>,
+    shared: Desks<S, K>,
+    pause: &'s Z,
+) -> Option<Sitter<'s>>
+    requires own { IsOf port.now seat.old × IsFree seat.old }
+    ensures own { IsOf port.now seat.new × IsFree seat.new }
+    ensures writer { IfSome result (λ s. s.promise.0.now ≡ port.now) }
+{
+    let theirs = port.split(seat);
+    let writer = move || -> Seat
+        requires { IsOf port.now theirs × IsFree theirs }
+        ensures { IsOf port.entry.now result × IsFree result }
+    {
+        let mine = theirs;
+        let desks = shared;
+        host_writer(rt, port, mine, desks, pause)
+    };
+    match scope.spawn_with(Returns(port), writer) {
+        Ok(writer) => Some(writer),
+        Err(refused) => {
+            desks.close(rt);
+            let back = (refused.value)();
+            take_in(port, seat, back);
+            None
+        }
+    }
+}
+
+// Starts the thread of a pair that reads. Where it can't be started the desks are closed.
+fn start_reader<
+    's,
+    E,
+    R: Threads + Wait + Sync,
+    S: Source + Send + Drop + 's,
+    K: Sink + Send + Drop + 's,
+    C: Clock + Sync,
+    G: Rand + Send + Drop + 's,
+    Z: Pause + Sync,
+>(
+    scope: &Scope<'s, E>,
+    rt: &'s R,
+    alloc: Global,
+    port: &'s Port,
+    seat: &mut Seat,
+    desks: &Desks<S, K>,
+    shared: Desks<S, K>,
+    clock: &'s C,
+    rand: G,
+    pause: &'s Z,
+) -> Option<Sitter<'s>>
+    requires own { IsOf port.now seat.old × IsFree seat.old }
+    ensures own { IsOf port.now seat.new × IsFree seat.new }
+    ensures reader { IfSome result (λ s. s.promise.0.now ≡ port.now) }
+{
+    let theirs = port.split(seat);
+    let reader = move || -> Seat
+        requires { IsOf port.now theirs × IsFree theirs }
+        ensures { IsOf port.entry.now result × IsFree result }
+    {
+        let mine = theirs;
+        let desks = shared;
+        let rand = rand;
+        host_reader(rt, alloc, port, mine, desks, clock, rand, pause)
+    };
+    match scope.spawn_with(Returns(port), reader) {
+        Ok(reader) => Some(reader),
+        Err(refused) => {
+            desks.close(rt);
+            let back = (refused.value)();
+            take_in(port, seat, back);
+            None
+        }
+    }
+}
+
 // Starts a pair, which is idle. Where memory is wanted, or a thread can't be started, there is none.
 fn start_pair<
     's,
@@ -198,49 +286,20 @@ fn start_pair<
     let desks = Desks::new(alloc).ok()?;
     let for_writer = desks.shared().ok()?;
     let for_reader = desks.shared().ok()?;
-    let theirs = port.split(seat);
-    let writer = move || -> Seat
-        requires { IsOf port.now theirs × IsFree theirs }
-        ensures { IsOf port.entry.now result × IsFree result }
-    {
-        let mine = theirs;
-        let desks = for_writer;
-        host_writer(rt, port, mine, desks, pause)
+    let writer = start_writer(scope, rt, port, seat, &desks, for_writer, pause)?;
+    let reader = start_reader(
+        scope, rt, alloc, port, seat, &desks, for_reader, clock, rand, pause,
+    );
+    let Some(reader) = reader else {
+        let back = writer.join(rt);
+        take_in(port, seat, back);
+        return None;
     };
-    let writer = match scope.spawn_with(Returns(port), writer) {
-        Ok(writer) => writer,
-        Err(refused) => {
-            desks.close(rt);
-            let back = (refused.value)();
-            take_in(port, seat, back);
-            return None;
-        }
-    };
-    let theirs = port.split(seat);
-    let reader = move || -> Seat
-        requires { IsOf port.now theirs × IsFree theirs }
-        ensures { IsOf port.entry.now result × IsFree result }
-    {
-        let mine = theirs;
-        let desks = for_reader;
-        let rand = rand;
-        host_reader(rt, alloc, port, mine, desks, clock, rand, pause)
-    };
-    match scope.spawn_with(Returns(port), reader) {
-        Ok(reader) => Some(Pair {
-            writer,
-            reader,
-            desks,
-        }),
-        Err(refused) => {
-            desks.close(rt);
-            let back = (refused.value)();
-            take_in(port, seat, back);
-            let back = writer.join(rt);
-            take_in(port, seat, back);
-            None
-        }
-    }
+    Some(Pair {
+        writer,
+        reader,
+        desks,
+    })
 }
 
 /// Adds a pair that is idle. Where memory is wanted, or a thread can't be started, none is added.
