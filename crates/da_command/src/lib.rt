@@ -13,4 +13,4 @@ pub use check::run_check;
 pub use commands::Command;
 pub use settings_file::read_settings;
 pub use status::Status;
-pub use words::{command, path_of_drive, path_of_worker};
+pub use words::{command, path_after, path_of_drive, path_of_worker};

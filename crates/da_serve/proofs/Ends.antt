@@ -1,27 +1,15 @@
--- A history that has ended has ended however it goes on, and its end has a status.
-use Rattle.std.proofs.Common.{◌≡◌, ℕ, ◌≤◌, ◌+◌, Bool, true, false, ◌&&◌, ◌||◌, not, nat_le, List, [], ◌∷◌, ◌++◌, length, refl, sym, ap, ◌∙◌, subst, inl, inr, append_assoc, arith}
+-- A history that has ended has ended however it goes on.
+use Rattle.std.proofs.Common.{◌≡◌, ℕ, ◌≤◌, true, ◌||◌, nat_le, List, [], ◌∷◌, ◌++◌, length, sym, ap, ◌∙◌, subst, inl, inr, append_assoc, arith}
 use Rattle.std.proofs.lemmas.Bool.Decides.{nat_tests}
-use Rattle.std.proofs.lemmas.Bool.{cases_Bool}
-use Rattle.da_play.specs.Legal.{is_full, is_over, size}
+use Rattle.da_play.specs.Legal.{is_full, size}
 use Rattle.da_play.specs.declared.input.Entry.{Entry}
-use Rattle.da_port.specs.Ends.{EndsLoop}
-use Rattle.da_port.specs.declared.ends.LoopEnd.{LoopEnd}
-use Rattle.da_port.specs.declared.ends.LoopEnd.TheVariants.{Over, Full}
 use Rattle.da_port.specs.declared.terms.Terms.{Terms}
 use Rattle.da_settings.specs.declared.settings.Settings.{Settings}
 use Rattle.da_turn.specs.Entries.{IsLater}
-use Rattle.da_serve.specs.Printed.{HasEnded, WasOver}
-
-later_self : (h : List Entry) → IsLater h h
-later_self h = ([], refl)
+use Rattle.da_serve.specs.Printed.{HasEnded}
 
 later_trans : (f g h : List Entry) → IsLater f g → IsLater g h → IsLater f h
 later_trans f g h p q = (q.0 ++ p.0, q.1 ∙ ap (λ l. q.0 ++ l) p.1 ∙ sym (append_assoc q.0 p.0 f))
-
--- where a loop over a port ends, the history has ended
-pub ended_by_loop : (terms : Terms) (h : List Entry) (end : LoopEnd) → EndsLoop terms h end → HasEnded terms h
-ended_by_loop terms h Over over = inr (record { before = h; later = later_self h; over = over })
-ended_by_loop terms h Full full = inl full.0
 
 -- ---- a history that goes on
 
@@ -47,21 +35,3 @@ full_stays settings g h later full = subst (λ xs. is_full settings xs ≡ true)
 pub ended_stays : (terms : Terms) (g h : List Entry) → IsLater g h → HasEnded terms g → HasEnded terms h
 ended_stays terms g h later (inl full) = inl (full_stays terms.settings g h later full)
 ended_stays terms g h later (inr was) = inr (record { before = was.before; later = later_trans was.before g h was.later later; over = was.over })
-
--- ---- the status of the end
-
-full_and_over : (full over : Bool) → full ≡ true → (full && not over) ≡ false → over ≡ true
-full_and_over true true f e = refl
-full_and_over true false f e = cc
-full_and_over false over f e = cc
-
--- a history that has ended, and isn't full or is over, was over
-pub was_over : (terms : Terms) (h : List Entry) → HasEnded terms h
-    → (is_full terms.settings h && not (is_over terms.settings terms.goal h)) ≡ false → WasOver terms h
-was_over terms h (inl full) ends =
-    record {
-      before = h;
-      later = later_self h;
-      over = full_and_over (is_full terms.settings h) (is_over terms.settings terms.goal h) full ends;
-    }
-was_over terms h (inr was) ends = was

@@ -1,3 +1,3 @@
 mod Ends
 mod PrintLemmas
-mod ServeLemmas
+mod WordLemmas

@@ -1,12 +1,10 @@
 -- The print of a history, piece by piece.
-use Rattle.std.proofs.Common.{◌≡◌, ℕ, ◌≤◌, ◌+◌, ◌^◌, min, false, List, [], ◌∷◌, ◌++◌, take, drop, reverse, refl, sym, ap, ◌∙◌, subst, Ok, append-nil, append_assoc, arith}
-use Rattle.std.proofs.lemmas.List.{reverse-append, take-append-drop}
+use Rattle.std.proofs.Common.{◌≡◌, ℕ, ◌<◌, ◌≤◌, ◌+◌, get_or, length, List, [], ◌∷◌, ◌++◌, take, drop, reverse, sym, ap, ◌∙◌, subst, append-nil, append_assoc, arith}
+use Rattle.std.proofs.lemmas.List.{reverse-append, take-append-drop, take_more}
 use Rattle.std.specs.Io.KnownBytes.{Appends}
-use Rattle.std.proofs.KnownBytes.{Appends-nil, Appends-trans}
+use Rattle.std.proofs.KnownBytes.{Appends-trans}
 use Rattle.da_base.specs.Words.{Bytes}
 use Rattle.da_command.specs.declared.status.Status.{Status}
-use Rattle.da_command.specs.declared.status.Status.TheVariants.{Done, Usage, BadScript, LongScript, BadInput, NoSettings, NoListen, NoMemory, ReadFault, WriteFault, Full, BadSettings}
-use Rattle.da_outside.specs.Causes.{Rose}
 use Rattle.da_outside.specs.Sink.{SinkState}
 use Rattle.da_play.specs.declared.input.Entry.{Entry}
 use Rattle.da_play.specs.Legal.{IsLegal}
@@ -17,8 +15,8 @@ use Rattle.da_script.specs.Scripts.{script}
 use Rattle.da_stream.specs.Output.{Begins, WrittenFront, WrittenWhole}
 use Rattle.da_serve.specs.declared.finish.Written.{Written}
 use Rattle.da_serve.specs.declared.finish.Written.TheVariants.{Whole, Fault, NoMemory as WantsMemory}
-use Rattle.da_serve.specs.Printed.{Finishes, HasEnded, Prints, TellsEnd, WritesAhead, WritesScript, WrittenPart, ends_full, entry_line}
-use Rattle.da_serve.proofs.Ends.{ended_stays, was_over}
+use Rattle.da_serve.specs.Printed.{Finishes, HasEnded, Prints, WritesScript, WrittenPart, entry_line}
+use Rattle.da_serve.proofs.Ends.{ended_stays}
 use Rattle.da_turn.specs.Entries.{IsLater}
 
 -- So far: of the script of some entries a front was written, and the rest is held.
@@ -28,8 +26,11 @@ pub record Printing (h : List Entry) (held : Bytes) (before now : SinkState) : T
   pub writes : Appends before.contents now.contents front
   pub later : before.faults ≤ now.faults
 
-pub printing_none : (before : SinkState) → Printing [] [] before before
-printing_none before = record { front = []; is_script = refl; writes = Appends-nil before.contents; later = omega arith }
+-- one entry further, the newest first
+pub front_further : (entries : List Entry) (i : ℕ) (e : Entry) → i < length entries → get_or entries i e ≡ e
+    → reverse (take (i + 1) entries) ≡ e ∷ reverse (take i entries)
+front_further entries i e more here =
+    ap reverse (take_more entries i e more) ∙ reverse-append (take i entries) (get_or entries i e ∷ []) ∙ ap (λ x. x ∷ reverse (take i entries)) here
 
 -- ---- a script goes on
 
@@ -119,31 +120,6 @@ module _ (before : SinkState) (h : List Entry) (held : Bytes) (now : SinkState) 
         writes = Appends-trans before.contents now.contents new.contents run.front writes.front run.writes writes.writes;
         later = let one = run.later in let two = writes.later in omega arith;
       }
-
--- ---- the status of a history that was written
-
-pub prints_whole : (terms : Terms) (h : List Entry) (before after : SinkState) (status : Status) → HasEnded terms h
-    → WrittenWhole (script h) before after → TellsEnd (ends_full terms h) status → Prints terms h before after status
-prints_whole terms h before after Done ended writes tells = (writes, tells, was_over terms h ended tells)
-prints_whole terms h before after Full ended writes tells = (writes, tells)
-prints_whole terms h before after Usage ended writes tells = absurd tells
-prints_whole terms h before after (BadScript line) ended writes tells = absurd tells
-prints_whole terms h before after LongScript ended writes tells = absurd tells
-prints_whole terms h before after BadInput ended writes tells = absurd tells
-prints_whole terms h before after NoSettings ended writes tells = absurd tells
-prints_whole terms h before after NoListen ended writes tells = absurd tells
-prints_whole terms h before after NoMemory ended writes tells = absurd tells
-prints_whole terms h before after ReadFault ended writes tells = absurd tells
-prints_whole terms h before after WriteFault ended writes tells = absurd tells
-prints_whole terms h before after (BadSettings fault) ended writes tells = absurd tells
-
--- nothing was written ahead
-pub ahead_none : (text : Bytes) (sink : SinkState) → WritesAhead text text sink sink (Ok tt)
-ahead_none text sink = ([], (refl, record { writes = Appends-nil sink.contents; later = omega arith }))
-
--- all was written ahead
-pub ahead_all : (text : Bytes) (before after : SinkState) → WrittenWhole text before after → WritesAhead text [] before after (Ok tt)
-ahead_all text before after writes = (text, (sym (append-nil text), writes))
 
 -- ---- the core that was closed
 

@@ -3,7 +3,7 @@ use Rattle.std.specs.Prelude.{◌≡◌, ◌≤◌, ◌⊎◌, ⊤, List, Option
 use Rattle.da_base.specs.Words.{Bytes}
 use Rattle.da_command.specs.SettingsFile.{HoldsFault, HoldsSettings, PathFails}
 use Rattle.da_command.specs.declared.status.Status.{Status}
-use Rattle.da_command.specs.declared.status.Status.TheVariants.{Done, Usage, NoListen, NoMemory, NoSettings, BadSettings, Full, WriteFault}
+use Rattle.da_command.specs.declared.status.Status.TheVariants.{Done, Usage, NoListen, NoMemory, NoSettings, BadSettings, Full}
 use Rattle.da_config.specs.SettingsText.{settings_of}
 use Rattle.da_outside.specs.Causes.{Rose}
 use Rattle.da_outside.specs.FileReads.{ReadsNoOther}
@@ -25,6 +25,21 @@ pub record ServeOutside (Connection : Type 0) : Type 0 where
   pub clients : ListenState Connection
   pub masters : ListenState Connection
   pub output : SinkState
+
+-- ---- a service with settings
+
+-- a history was served and printed: it is legal under the settings, and full, or its goal was met
+pub record ServesHistory (terms : Terms) (before after : SinkState) (status : Status) : Type 0 where
+  pub history : List Entry
+  pub legal : IsLegal terms.settings history
+  pub ended : HasEnded terms history
+  pub prints : Prints terms history before after status
+
+-- A new history was served, or memory was wanted before there was one.
+abbrev pub ServesNew : Settings → Option Goal → SinkState → SinkState → Status → Type 0
+ServesNew settings goal before after NoMemory =
+    (after ≡ before) ⊎ ServesHistory (record { settings = settings; goal = goal }) before after NoMemory
+ServesNew settings goal before after status = ServesHistory (record { settings = settings; goal = goal }) before after status
 
 module _ {C : Type 0} where
   -- ---- the sockets
@@ -50,20 +65,7 @@ module _ {C : Type 0} where
   BindsBoth clients clients_after masters masters_after (Err NoMemory) = ⊤
   BindsBoth clients clients_after masters masters_after (Err _) = ⊥
 
-  -- ---- a service with settings
-
-  -- a history was served and printed: it is legal under the settings, and full, or its goal was met
-  pub record ServesHistory (terms : Terms) (before after : SinkState) (status : Status) : Type 0 where
-    pub history : List Entry
-    pub legal : IsLegal terms.settings history
-    pub ended : HasEnded terms history
-    pub prints : Prints terms history before after status
-
-  -- A new history was served, or memory was wanted before there was one.
-  abbrev pub ServesNew : Settings → Option Goal → SinkState → SinkState → Status → Type 0
-  ServesNew settings goal before after NoMemory =
-      (after ≡ before) ⊎ ServesHistory (record { settings = settings; goal = goal }) before after NoMemory
-  ServesNew settings goal before after status = ServesHistory (record { settings = settings; goal = goal }) before after status
+  -- ---- under settings
 
   -- By the status.
   --   NoListen: a socket couldn't be bound, and nothing was written.

@@ -67,12 +67,12 @@ fn write_script<K: Sink>(alloc: Global, entries: &[Entry], output: &mut K) -> Wr
 {
     let mut text = Vec::new(alloc);
     for entry in entries {
-        if push_entry(&mut text, alloc, entry).is_err() {
+        let Ok(()) = push_entry(&mut text, alloc, entry) else {
             return Written::NoMemory;
-        }
-        if write_ahead(&mut text, output).is_err() {
+        };
+        let Ok(()) = write_ahead(&mut text, output) else {
             return Written::Fault;
-        }
+        };
     }
     write_rest(&text, output)
 }

@@ -1,33 +1,14 @@
 // The words of `serve`.
 
-ghost use Rattle.std.specs.Prelude.{◌≡◌, map, option_copied, option_map, string_bytes};
-ghost use Rattle.da_command.specs.Words.{is_value, path_of};
+ghost use Rattle.std.specs.Prelude.{◌≡◌, map, option_map, string_bytes};
 ghost use Rattle.da_serve.specs.Words.{goal_of, goal_number, goal_words, serve_task};
 
+use da_command::path_after;
 use da_settings::Goal;
 use da_tabline::decimal_number;
 
 /// The most connections of a kind that a goal may name.
 const GOAL_MAX: u64 = 100_000;
-
-fn may_be_value(word: &[u8]) -> bool
-    ensures { result ≡ is_value word.now }
-{
-    match word {
-        [] => false,
-        [first, ..] => *first != b'-',
-    }
-}
-
-fn path_after<'a>(name: &[u8], command: &[u8], path: &'a [u8]) -> Option<&'a [u8]>
-    ensures { option_copied result ≡ path_of name.now command.now path.now }
-{
-    if command == name && may_be_value(path) {
-        Some(path)
-    } else {
-        None
-    }
-}
 
 fn count_of(word: &[u8]) -> Option<u32>
     ensures { result ≡ goal_number word.now }
