@@ -1,6 +1,7 @@
 // What the program says on standard error.
 
 use crate::shown::shown;
+use crate::usage::usage_text;
 use da_app::Status;
 use da_outside::{Failed, Sink};
 use da_stream::write_all;
@@ -13,14 +14,23 @@ pub fn complain<K: Sink>(to: &mut K, words: &[u8]) -> Result<(), Failed> {
     write_all(to, b"\n")
 }
 
-/// Tells the words of a status, if it has any. Where no memory is left for them, that is told.
+/// Tells the words of a status, if it has any, and where it is `usage` how the program is used. Where no memory is left for
+/// the words, that is told; where none is left for the usage text, nothing is.
 pub fn tell<K: Sink>(alloc: Global, to: &mut K, status: &Status) {
     let told = match words_of(alloc, status) {
         Ok(words) if words.is_empty() => Ok(()),
         Ok(words) => complain(to, &words),
         Err(AllocError) => complain(to, b"no memory"),
     };
-    let _ = told;
+    if told.is_ok() && matches!(status, Status::Usage) {
+        tell_usage(alloc, to);
+    }
+}
+
+fn tell_usage<K: Sink>(alloc: Global, to: &mut K) {
+    if let Ok(text) = usage_text(alloc) {
+        let _ = write_all(to, text.as_bytes());
+    }
 }
 
 // They may have a key of a settings file in them, which can be any text.

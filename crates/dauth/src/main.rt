@@ -4,13 +4,23 @@
 
 mod adapters;
 mod children;
+mod clock;
 mod complaints;
+#[cfg(test)]
+mod file_workers;
 mod limits;
 mod lines;
 mod patient;
+#[cfg(test)]
+mod peers;
 mod programs;
+mod query_limit;
 mod random;
+#[cfg(test)]
+mod service_tests;
 mod shown;
+mod sockets;
+mod staff;
 #[cfg(test)]
 mod tests;
 #[cfg(test)]
@@ -19,6 +29,9 @@ mod tests_of_children;
 mod tests_of_commands;
 #[cfg(test)]
 mod tests_of_reads;
+#[cfg(test)]
+mod tests_of_sockets;
+mod usage;
 mod workers;
 
 ghost use Rattle.std.specs.Prelude.{◌≡◌};
@@ -26,10 +39,15 @@ ghost use Rattle.std.specs.Process.{exit_status};
 ghost use Rattle.da_command.specs.Statuses.{status_code};
 
 use adapters::{Disk, Input, Output};
+use clock::{Nap, Now};
 use complaints::{complain, tell};
 use da_app::{Command, Status, command, run_check, run_drive, run_pw, run_worker};
 use da_outside::{Sink, Source};
+use da_serve::run_serve;
+use query_limit::{QueryLimit, SettingsFiles};
 use random::Random;
+use sockets::Socket;
+use staff::Staff;
 use std::alloc::Global;
 use std::os::fd::AsRawFd;
 use std::process::ExitCode;
@@ -77,18 +95,11 @@ fn run<R: Files + RandomSource, S: Source, K: Sink>(
     }
 }
 
-/// Runs the command, and tells its status.
-fn start(rt: &HostRuntime) -> io::Result<Status> {
-    let words = words(rt)?;
+/// Runs a command that needs no threads.
+fn start(rt: &HostRuntime, words: &[String]) -> io::Result<Status> {
     let mut input = Input::new(rt.stdin());
     let mut output = Output::new(rt.stdout().as_raw_fd());
-    let status = run(rt, rt.alloc(), &words, &mut input, &mut output)?;
-    tell(
-        rt.alloc(),
-        &mut Output::new(rt.stderr().as_raw_fd()),
-        &status,
-    );
-    Ok(status)
+    run(rt, rt.alloc(), words, &mut input, &mut output)
 }
 
 fn end(status: &Status) -> ExitCode
@@ -97,13 +108,53 @@ fn end(status: &Status) -> ExitCode
     ExitCode::from(status.code())
 }
 
+/// Tells a status, and ends with its code.
+fn told_end<K: Sink>(alloc: Global, errors: &mut K, status: &Status) -> ExitCode
+    ensures { exit_status result ≡ status_code status.now }
+{
+    tell(alloc, errors, status);
+    end(status)
+}
+
+/// The end where the program can't begin its work, which it tells.
+fn cannot_start<K: Sink>(errors: &mut K) -> ExitCode {
+    let _ = complain(errors, b"cannot start");
+    ExitCode::from(CANNOT_START)
+}
+
 fn main(rt: HostRuntime) -> ExitCode {
-    match start(&rt) {
-        Ok(status) => end(&status),
-        Err(_) => {
-            let mut output = Output::new(rt.stderr().as_raw_fd());
-            let _ = complain(&mut output, b"cannot start");
-            ExitCode::from(CANNOT_START)
-        }
-    }
+    let alloc = rt.alloc();
+    let mut errors = Output::new(rt.stderr().as_raw_fd());
+    let Ok(words) = words(&rt) else {
+        return cannot_start(&mut errors);
+    };
+    let Some(Command::Serve) = command(&words) else {
+        return match start(&rt, &words) {
+            Ok(status) => told_end(alloc, &mut errors, &status),
+            Err(_) => cannot_start(&mut errors),
+        };
+    };
+    let Ok(mut rand) = Random::new(&rt) else {
+        return cannot_start(&mut errors);
+    };
+    let limit = QueryLimit::new();
+    let mut clients = Socket::new(&rt);
+    let mut masters = Socket::new(&rt);
+    // `main` alone may hand on the leave to start threads.
+    let status = run_serve(
+        &rt,
+        alloc,
+        &words,
+        &mut SettingsFiles::new(Disk::new(&rt, path(&words)), &limit),
+        &mut clients,
+        &mut masters,
+        &mut Staff::new(&rt, &limit),
+        &Now::new(&rt),
+        &mut rand,
+        &Nap::new(&rt),
+        &mut Output::new(rt.stdout().as_raw_fd()),
+    );
+    clients.close();
+    masters.close();
+    told_end(alloc, &mut errors, &status)
 }

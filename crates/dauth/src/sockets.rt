@@ -1,27 +1,32 @@
 // Unix sockets. A connection is one descriptor, which its reader and its writer share.
 
-ghost use Rattle.std.specs.Prelude.{◌≡◌, None, IsErrOf};
+ghost use Rattle.std.specs.Prelude.{◌≡◌, ◌<◌, None, IfOk, IsErrOf, length};
+ghost use Rattle.std.specs.Io.{WritesAtMost};
 
+use crate::patient::read_on;
 use da_outside::{Failed, GetFault, Listen, Sink, Source};
 use std::alloc::{AllocError, Global};
-use std::io::{ErrorKind, Read, Write};
+use std::io::{ErrorKind, Write};
 use std::net::{Net, Shutdown};
-use std::os::fd::OwnedFd;
+use std::os::fd::{AsFd, AsRawFd, OwnedFd};
 use std::os::unix::fs::FileTypeExt;
-use std::os::unix::net::{UnixListener, UnixStream};
+use std::os::unix::net::{SocketAddr, UnixListener, UnixStream};
 use std::rt::Files;
 use std::sync::Arc;
 use std::time::Duration;
 use std::{fs, io, str};
 
-/// Who may connect: the owner and the group of the socket file.
+/// Who may connect: the owner and the group of the socket's file.
 const MODE: u32 = 0o660;
+
+/// How many connections may wait until they are accepted: as many as the system allows.
+const BACKLOG: i32 = -1;
 
 /// How long an accept waits for a connection, in milliseconds. Then it fails, so that whoever accepts can look whether to
 /// go on.
 const ACCEPT_LIMIT: u64 = 1000;
 
-/// How long a write waits for its client, in seconds.
+/// How long a write waits until some of it is taken, in seconds.
 const WRITE_LIMIT: u64 = 30;
 
 /// The half of a connection that reads.
@@ -48,7 +53,7 @@ impl Source for Reads {
     ghost state = { λ reads. record { left = None; faults = reads.faults } };
 
     fn read(&mut self, buf: &mut [u8]) -> Result<usize, Failed> {
-        match (&mut &*self.stream).read(buf) {
+        match read_on(&mut &*self.stream, buf) {
             Ok(count) => Ok(count),
             Err(_) => {
                 self.faults = self.faults.saturating_add(1);
@@ -58,13 +63,30 @@ impl Source for Reads {
     }
 }
 
+// One write, tried again where a signal came between: one that stops the process and lets it go on does, since the write
+// has a limit. A write that takes nothing is an error.
+fn write_on(stream: &UnixStream, piece: &[u8]) -> io::Result<usize>
+    ensures bound { WritesAtMost result piece.now }
+    ensures some { IfOk result (λ count. 0 < length piece.now → 0 < count) }
+{
+    for _ in 0..u64::MAX {
+        match (&mut &*stream).write(piece) {
+            Ok(count) if count > 0 || piece.is_empty() => return Ok(count),
+            Ok(_) => return Err(io::Error::from(ErrorKind::WriteZero)),
+            Err(error) if error.kind() == ErrorKind::Interrupted => {}
+            Err(error) => return Err(error),
+        }
+    }
+    Err(io::Error::from(ErrorKind::TimedOut))
+}
+
 impl Sink for Writes {
     ghost state = { λ writes. record { contents = None; faults = writes.faults } };
 
     fn write(&mut self, piece: &[u8]) -> Result<usize, Failed> {
-        match (&mut &*self.stream).write(piece) {
-            Ok(count) if count > 0 || piece.is_empty() => Ok(count),
-            _ => {
+        match write_on(&self.stream, piece) {
+            Ok(count) => Ok(count),
+            Err(_) => {
                 self.faults = self.faults.saturating_add(1);
                 Err(Failed)
             }
@@ -88,6 +110,7 @@ pub struct Socket<'a, R> {
 }
 
 impl<'a, R: Files + Net> Socket<'a, R> {
+    /// A socket that isn't bound yet.
     pub fn new(rt: &'a R) -> Self {
         Socket {
             rt,
@@ -105,20 +128,32 @@ impl<'a, R: Files + Net> Socket<'a, R> {
     }
 }
 
-// A listener whose `accept` fails after a while.
-fn with_limit(listener: UnixListener) -> io::Result<UnixListener> {
-    let stream = UnixStream::from(OwnedFd::from(listener));
-    stream.set_read_timeout(Some(Duration::from_millis(ACCEPT_LIMIT)))?;
-    Ok(UnixListener::from(OwnedFd::from(stream)))
+fn checked(status: i32) -> io::Result<()> {
+    if status != 0 {
+        return Err(io::Error::from_raw_os_error(os::errno()));
+    }
+    Ok(())
 }
 
+// The file of a socket has the socket's own mode without the bits of the umask, so it is never open to more than `MODE`
+// says.
 fn bind_at<R: Files + Net>(rt: &R, path: &str) -> io::Result<UnixListener> {
     remove_stale(rt, path)?;
-    let listener = with_limit(UnixListener::bind(rt, path)?)?;
-    if os::chmod(path.as_bytes(), MODE) != 0 {
-        return Err(io::Error::from(ErrorKind::PermissionDenied));
+    let socket = UnixStream::from(rt.unix_socket()?);
+    socket.set_read_timeout(Some(Duration::from_millis(ACCEPT_LIMIT)))?;
+    checked(libc::fchmod(socket.as_raw_fd(), MODE))?;
+    rt.bind_unix(socket.as_fd(), &SocketAddr::from_pathname(path)?)?;
+    if let Err(error) = let_in(&socket, path) {
+        let _ = fs::remove_file(rt, path);
+        return Err(error);
     }
-    Ok(listener)
+    Ok(UnixListener::from(OwnedFd::from(socket)))
+}
+
+// Gives the file the bits that the umask took, and listens.
+fn let_in(socket: &UnixStream, path: &str) -> io::Result<()> {
+    checked(os::chmod(path.as_bytes(), MODE))?;
+    checked(libc::net::listen(socket.as_raw_fd(), BACKLOG))
 }
 
 fn is_socket<R: Files>(rt: &R, path: &str) -> io::Result<bool> {
@@ -173,7 +208,10 @@ fn accepted(alloc: Global, bound: &Option<Bound>) -> Result<(Reads, Writes), Get
     let Ok((stream, _)) = bound.listener.accept() else {
         return Err(GetFault::Failed);
     };
-    let _ = stream.set_write_timeout(Some(Duration::from_secs(WRITE_LIMIT)));
+    let limit = Duration::from_secs(WRITE_LIMIT);
+    if stream.set_write_timeout(Some(limit)).is_err() {
+        return Err(GetFault::Failed);
+    }
     Ok(halves(alloc, stream)?)
 }
 

@@ -6,10 +6,16 @@ use std::alloc::{AllocError, Global};
 /// Each command, and what its values are for.
 const COMMANDS: [(&str, &str); 5] = [
     ("drive", "PATH: play a script of events through the service"),
-    ("check", "PATH: read settings, and tell how many databases they have"),
+    (
+        "check",
+        "PATH: read settings, and tell how many databases they have",
+    ),
     ("worker", "PATH: answer queries by passwd-files"),
     ("pw", "SCHEME: make the stored form of a password"),
-    ("serve", "PATH, or PATH N M: serve connections, until N clients and M masters have come and gone"),
+    (
+        "serve",
+        "PATH, or PATH N M: serve connections, until N clients and M masters have come and gone",
+    ),
 ];
 
 /// The usage text, which names each command.
