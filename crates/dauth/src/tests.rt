@@ -1,12 +1,13 @@
-// Programs and workers of the system.
+// Programs and workers of the system, and how the program is used.
 
 use crate::children::Starts;
+use crate::complaints::tell;
 use crate::programs::Programs;
-use crate::usage::usage_text;
 use crate::workers::Workers;
+use da_app::Status;
 use da_child::check;
 use da_fields::{Answer, Why};
-use da_outside::{Link, Spawner};
+use da_outside::{Link, MemSink, Spawner};
 use std::alloc::{AllocError, Global};
 use std::test::Fail;
 use std::{fs, io};
@@ -109,9 +110,12 @@ fn has_line_of(text: &[u8], word: &[u8]) -> bool {
 
 #[test]
 fn the_usage_names_each_command(rt: HostRuntime) -> Result<(), Fail> {
-    let text = usage_text(rt.alloc())?;
+    let alloc = rt.alloc();
+    let mut told = MemSink::new(alloc, Vec::new(alloc));
+    tell(alloc, &mut told, &Status::Usage);
+    assert!(rt; told.bytes().starts_with(b"dauth: usage\n"));
     for name in b"drive|check|worker|pw|serve".split(|byte| *byte == b'|') {
-        assert!(rt; has_line_of(text.as_bytes(), name));
+        assert!(rt; has_line_of(told.bytes(), name));
     }
     Ok(())
 }
