@@ -145,7 +145,7 @@ fn main(rt: HostRuntime) -> ExitCode {
         &rt,
         alloc,
         &words,
-        &mut SettingsFiles::new(Disk::new(&rt, path(&words)), &limit),
+        &mut SettingsFiles::of_disk(&rt, path(&words), &limit),
         &mut clients,
         &mut masters,
         &mut Staff::new(&rt, &limit),

@@ -1,7 +1,9 @@
 // How long a query may take, which the settings say.
 
+use crate::adapters::Disk;
 use da_outside::{Files, GetFault};
 use std::alloc::Global;
+use std::rt;
 use std::sync::atomic::{AtomicU64, Ordering};
 
 /// What settings say that don't name it, in milliseconds.
@@ -42,8 +44,19 @@ pub struct SettingsFiles<'a, F> {
 }
 
 impl<'a, F: Files> SettingsFiles<'a, F> {
+    /// These files.
     pub fn new(files: F, limit: &'a QueryLimit) -> Self {
         SettingsFiles { files, limit }
+    }
+}
+
+impl<'a, R: rt::Files> SettingsFiles<'a, Disk<'a, R>> {
+    /// The files of the system, of which the one at `path` is that of the settings.
+    pub fn of_disk(rt: &'a R, path: &'a [u8], limit: &'a QueryLimit) -> Self {
+        SettingsFiles {
+            files: Disk::new(rt, path),
+            limit,
+        }
     }
 }
 
