@@ -7,11 +7,10 @@ use crate::query_limit::{QueryLimit, SettingsFiles};
 use crate::random::Random;
 use crate::sockets::Socket;
 use crate::staff::Staff;
-use da_app::run_drive;
+use da_app::{run_drive, run_serve};
 use da_outside::{
     Clock, Crew, Files, Listen, MemFiles, MemSink, MemSource, Rand, SetClock, SetRand, Spawner,
 };
-use da_serve::run_serve;
 use std::alloc::{AllocError, Global};
 use std::net::Net;
 use std::sync::Wait;
