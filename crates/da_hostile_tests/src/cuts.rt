@@ -1,0 +1,37 @@
+// A script that ends after any of its bytes.
+
+use crate::login::{Play, SCRIPT, line_ends, played, replies_to};
+use da_app::Status;
+use std::alloc::{AllocError, Global};
+use std::test::Fail;
+
+// Whether the status is that of a script which ends so, with so many whole lines before.
+fn is_end_of(script: &[u8], lines: u64, status: &Status) -> bool {
+    let is_whole = script.is_empty() || script.ends_with(b"\n");
+    match status {
+        Status::Done => is_whole,
+        Status::BadScript { line } => !is_whole && *line == lines.saturating_add(1),
+        _ => false,
+    }
+}
+
+// Whether the play of this script ends as its end says, with the replies to its whole lines.
+fn is_cut_right(alloc: Global, script: &[u8]) -> Result<bool, AllocError> {
+    let play = Play {
+        script,
+        most: 0,
+        read_fails: 0,
+        write_fails: 0,
+    };
+    let (status, output) = played(alloc, &play)?;
+    let lines = line_ends(script);
+    Ok(is_end_of(script, lines, &status) && output.inner.bytes() == replies_to(lines))
+}
+
+#[test]
+fn a_script_is_played_up_to_its_last_whole_line(rt: HostRuntime) -> Result<(), Fail> {
+    for count in 0..=SCRIPT.len() {
+        assert!(rt; is_cut_right(rt.alloc(), &SCRIPT[..count])?);
+    }
+    Ok(())
+}
