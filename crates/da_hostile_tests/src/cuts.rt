@@ -30,7 +30,7 @@ fn is_cut_right(alloc: Global, script: &[u8]) -> Result<bool, AllocError> {
 
 #[test]
 fn a_script_is_played_up_to_its_last_whole_line(rt: HostRuntime) -> Result<(), Fail> {
-    for count in 0..=SCRIPT.len() {
+    for count in 0..SCRIPT.len() + 1 {
         assert!(rt; is_cut_right(rt.alloc(), &SCRIPT[..count])?);
     }
     Ok(())
