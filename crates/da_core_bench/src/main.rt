@@ -1,9 +1,10 @@
 //! A play of a script by one of the two servers, for bench/drive to time: the program is given the name of the server,
-//! `plain` or `core`, and the file of its settings, reads the script, and writes the printed replies.
+//! `plain` or `core`, and the file of its settings, reads the script, and writes the printed replies. For
+//! tools/refuse-allocations there is `again` too, a `core` that makes a step once more where it wanted memory.
 #![tactic(auto)]
 
 use anyhow::Context;
-use da_player::{replies_of_core, replies_of_plain};
+use da_player::{replies_of_core, replies_of_core_again, replies_of_plain};
 use std::alloc::{AllocError, Global};
 use std::io::Write;
 use std::{env, fs, io};
@@ -18,6 +19,7 @@ fn replies_of(
     match name {
         "plain" => replies_of_plain(alloc, settings, script),
         "core" => replies_of_core(alloc, settings, script),
+        "again" => replies_of_core_again(alloc, settings, script),
         _ => Ok(None),
     }
 }

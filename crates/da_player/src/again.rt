@@ -11,9 +11,17 @@ struct Repeating {
     core: Core,
 }
 
+// A copy, which is made once more where the first one wanted memory.
+fn copied(alloc: Global, input: &Input) -> Result<Input, AllocError> {
+    match input.copy(alloc) {
+        Ok(same) => Ok(same),
+        Err(_) => input.copy(alloc),
+    }
+}
+
 impl Server for Repeating {
     fn step(&mut self, moment: u64, input: Input) -> Result<Outputs, Refused> {
-        let Ok(same) = input.copy(self.alloc) else {
+        let Ok(same) = copied(self.alloc, &input) else {
             return Err(Refused::NoMemory);
         };
         match self.core.step(moment, input) {
