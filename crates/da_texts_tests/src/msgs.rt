@@ -1,4 +1,5 @@
-use da_fields::{Fields, Text};
+use crate::cases::{listed, text};
+use da_fields::Text;
 use da_msgs::*;
 use std::alloc::{AllocError, Global};
 use std::test::Fail;
@@ -36,113 +37,157 @@ fn master_letter(message: &Option<MasterMsg>) -> u8 {
     }
 }
 
-fn text(alloc: Global, bytes: &[u8]) -> Result<Text, AllocError> {
-    Text::from_slice(alloc, bytes)
+fn client_is_spelled(alloc: Global, case: &[u8]) -> Result<bool, AllocError> {
+    match case.split_first() {
+        Some((letter, line)) => Ok(client_letter(&ClientMsg::read(alloc, line)?) == *letter),
+        None => Ok(false),
+    }
+}
+
+fn master_is_spelled(alloc: Global, case: &[u8]) -> Result<bool, AllocError> {
+    match case.split_first() {
+        Some((letter, line)) => Ok(master_letter(&MasterMsg::read(alloc, line)?) == *letter),
+        None => Ok(false),
+    }
 }
 
 #[test]
 fn lines_spell_their_messages(rt: HostRuntime) -> Result<(), Fail> {
-    let alloc = rt.alloc();
     for case in CLIENT_LINES.split(|byte| *byte == b'\n') {
-        if let Some((letter, line)) = case.split_first() {
-            assert_eq!(rt; client_letter(&ClientMsg::read(alloc, line)?), *letter);
-        }
+        assert!(rt; client_is_spelled(rt.alloc(), case)?);
     }
     for case in MASTER_LINES.split(|byte| *byte == b'\n') {
-        if let Some((letter, line)) = case.split_first() {
-            assert_eq!(rt; master_letter(&MasterMsg::read(alloc, line)?), *letter);
-        }
+        assert!(rt; master_is_spelled(rt.alloc(), case)?);
     }
-    let longest = vec![in alloc; b'x'; 8192]?;
-    assert_eq!(rt; client_letter(&ClientMsg::read(alloc, &longest)?), b'O');
-    let longer = vec![in alloc; b'x'; 8193]?;
-    assert_eq!(rt; client_letter(&ClientMsg::read(alloc, &longer)?), b'-');
-    assert_eq!(rt; master_letter(&MasterMsg::read(alloc, b"x\n")?), b'-');
     Ok(())
 }
 
+// The letter of a line of so many bytes.
+fn letter_at(alloc: Global, length: usize) -> Result<u8, AllocError> {
+    let line = vec![in alloc; b'x'; length]?;
+    Ok(client_letter(&ClientMsg::read(alloc, &line)?))
+}
+
 #[test]
-fn of_equal_parameters_the_last_holds(rt: HostRuntime) -> Result<(), Fail> {
-    let line = b"AUTH\t7\tPLAIN\tservice=imap\tlip=::1\tservice=pop3\tresp=A=\tservice=smtp";
-    match ClientMsg::read(rt.alloc(), line)? {
+fn a_line_has_at_most_8192_bytes_and_no_end(rt: HostRuntime) -> Result<(), Fail> {
+    assert!(rt; letter_at(rt.alloc(), 8192)? == b'O');
+    assert!(rt; letter_at(rt.alloc(), 8193)? == b'-');
+    assert!(rt; master_is_spelled(rt.alloc(), b"-x\n")?);
+    Ok(())
+}
+
+fn has_the_last_ones(message: &Option<ClientMsg>) -> bool {
+    match message {
         Some(
             ClientMsg::Auth {
                 id,
                 mech,
                 params,
-                resp,
+                resp: Some(resp),
             },
         ) => {
-            assert_eq!(rt; id, 7);
-            assert_eq!(rt; mech.bytes(), b"PLAIN".as_slice());
-            assert_eq!(rt; params.pairs().len(), 2);
-            assert!(rt; params.get(b"service") == Some(b"pop3".as_slice()));
-            assert_eq!(rt; resp.map(|resp| resp.bytes().len()), Some(2));
+            *id == 7
+                && mech.bytes() == b"PLAIN".as_slice()
+                && params.pairs().len() == 2
+                && params.get(b"service") == Some(b"pop3".as_slice())
+                && resp.bytes().len() == 2
         }
-        _ => panic!(rt; "another message"),
+        _ => false,
     }
+}
+
+#[test]
+fn of_equal_parameters_the_last_holds(rt: HostRuntime) -> Result<(), Fail> {
+    let line = b"AUTH\t7\tPLAIN\tservice=imap\tlip=::1\tservice=pop3\tresp=A=\tservice=smtp";
+    assert!(rt; has_the_last_ones(&ClientMsg::read(rt.alloc(), line)?));
     Ok(())
 }
+
+const FIELDS: &[u8] = b"uid=1000;nodelay;proxy";
+
+fn user(alloc: Global) -> Result<MasterReply, AllocError> {
+    let fields = listed(alloc, FIELDS)?;
+    let user = text(alloc, b"alice")?;
+    Ok(MasterReply::User {
+        id: 3,
+        user,
+        fields,
+    })
+}
+
+fn ok(alloc: Global) -> Result<Reply, AllocError> {
+    let user = text(alloc, b"a\tb")?;
+    let fields = listed(alloc, FIELDS)?;
+    let last = text(alloc, b"dj0=")?;
+    Ok(Reply::Ok {
+        id: 1,
+        user,
+        fields,
+        last: Some(last),
+    })
+}
+
+fn fail(alloc: Global) -> Result<Reply, AllocError> {
+    let user = text(alloc, b"bob")?;
+    let reason = text(alloc, b"")?;
+    Ok(Reply::Fail {
+        id: 9,
+        user: Some(user),
+        authz: true,
+        temp: false,
+        disabled: true,
+        reason: Some(reason),
+    })
+}
+
+fn is_printed(alloc: Global, reply: &Reply, wanted: &[u8]) -> Result<bool, AllocError> {
+    Ok(reply.print(alloc)?.as_slice() == wanted)
+}
+
+fn is_told(alloc: Global, reply: &MasterReply, wanted: &[u8]) -> Result<bool, AllocError> {
+    Ok(reply.print(alloc)?.as_slice() == wanted)
+}
+
+const OK: &[u8] = b"OK\t1\tuser=a\x01tb\tuid=1000\tproxy\tresp=dj0=";
+
+const FAIL: &[u8] = b"FAIL\t9\tuser=bob\tauthz\tuser_disabled\treason";
+
+const USER: &[u8] = b"USER\t3\talice\tuid=1000\tnodelay\tproxy";
 
 #[test]
 fn replies_have_their_fields_in_order(rt: HostRuntime) -> Result<(), Fail> {
     let alloc = rt.alloc();
-    let mut fields = Fields::new(alloc);
-    fields.set(text(alloc, b"uid")?, text(alloc, b"1000")?)?;
-    fields.set(text(alloc, b"nodelay")?, text(alloc, b"")?)?;
-    fields.set(text(alloc, b"proxy")?, text(alloc, b"")?)?;
-    let user = MasterReply::User {
-        id: 3,
-        user: text(alloc, b"alice")?,
-        fields: fields.copy(alloc)?,
-    };
-    assert_eq!(rt;
-        user.print(alloc)?.as_slice(),
-        b"USER\t3\talice\tuid=1000\tnodelay\tproxy".as_slice()
-    );
-    let none = MasterReply::NotFound { id: 1 };
-    assert_eq!(rt; none.print(alloc)?.as_slice(), b"NOTFOUND\t1".as_slice());
-    let ok = Reply::Ok {
-        id: 1,
-        user: text(alloc, b"a\tb")?,
-        fields,
-        last: Some(text(alloc, b"dj0=")?),
-    };
-    assert_eq!(rt;
-        ok.print(alloc)?.as_slice(),
-        b"OK\t1\tuser=a\x01tb\tuid=1000\tproxy\tresp=dj0=".as_slice()
-    );
-    let fail = Reply::Fail {
-        id: 9,
-        user: Some(text(alloc, b"bob")?),
-        authz: true,
-        temp: false,
-        disabled: true,
-        reason: Some(text(alloc, b"")?),
-    };
-    assert_eq!(rt;
-        fail.print(alloc)?.as_slice(),
-        b"FAIL\t9\tuser=bob\tauthz\tuser_disabled\treason".as_slice()
-    );
+    assert!(rt; is_told(alloc, &user(alloc)?, USER)?);
+    assert!(rt; is_told(alloc, &MasterReply::NotFound { id: 1 }, b"NOTFOUND\t1")?);
+    assert!(rt; is_printed(alloc, &ok(alloc)?, OK)?);
+    assert!(rt; is_printed(alloc, &fail(alloc)?, FAIL)?);
     Ok(())
+}
+
+const MECHS: [Mech; 3] = [Mech::Plain, Mech::CramMd5, Mech::ScramSha256];
+
+const GREETING: &[u8] =
+    b"VERSION\t1\t1\nMECH\tPLAIN\tplaintext\nMECH\tCRAM-MD5\tdictionary\tactive\nMECH\tSCRAM-SHA-256\tmutual-auth\n\
+SPID\t1\nCUID\t2\nCOOKIE\tc0c0c0c0c0c0c0c0c0c0c0c0c0c0c0c0\nDONE\n";
+
+fn joined(alloc: Global, lines: &[Text]) -> Result<Vec<u8>, AllocError> {
+    let mut all = Vec::new(alloc);
+    for line in lines {
+        all.extend_from_slice(line.bytes())?;
+        all.extend_from_slice(b"\n")?;
+    }
+    Ok(all)
+}
+
+fn greets_a_client(alloc: Global) -> Result<bool, AllocError> {
+    let lines = handshake(alloc, ConnKind::Client, &MECHS, 1, 2, &[0xc0; 16])?;
+    Ok(joined(alloc, &lines)?.as_slice() == GREETING)
 }
 
 #[test]
 fn a_client_is_greeted_with_the_mechanisms(rt: HostRuntime) -> Result<(), Fail> {
     let alloc = rt.alloc();
-    let mechs = [Mech::Plain, Mech::CramMd5, Mech::ScramSha256];
-    let mut all = Vec::new(alloc);
-    for line in handshake(alloc, ConnKind::Client, &mechs, 1, 2, &[0xc0; 16])? {
-        all.extend_from_slice(line.bytes())?;
-        all.push(b'\n')?;
-    }
-    let wanted =
-        b"VERSION\t1\t1\nMECH\tPLAIN\tplaintext\nMECH\tCRAM-MD5\tdictionary\tactive\nMECH\tSCRAM-SHA-256\tmutual-auth\n\
-SPID\t1\nCUID\t2\nCOOKIE\tc0c0c0c0c0c0c0c0c0c0c0c0c0c0c0c0\nDONE\n";
-    assert_eq!(rt; all.as_slice(), wanted.as_slice());
-    assert_eq!(rt;
-        handshake(alloc, ConnKind::Master, &mechs, 1, 2, &[0; 16])?.len(),
-        2
-    );
+    assert!(rt; greets_a_client(alloc)?);
+    assert!(rt; handshake(alloc, ConnKind::Master, &MECHS, 1, 2, &[0; 16])?.len() == 2);
     Ok(())
 }

@@ -1,4 +1,5 @@
-use da_fields::{Answer, Fields, Query, QueryKind, Text, Why};
+use crate::cases::text;
+use da_fields::{Answer, Fields, Query, QueryKind, Why};
 use da_query::*;
 use std::alloc::{AllocError, Global};
 use std::test::Fail;
@@ -24,10 +25,6 @@ const SCRIPT_LINES: &[u8] = b"+FOUND\t1\t{PLAIN}pw\tuserdb_quota=1G\tnodelay\n\
 +INTERNAL\t1\tdied\n+INTERNAL\t1\tmalformed\n+INTERNAL\t1\tsaid\n+INTERNAL\t1\texit\t0\n+INTERNAL\t1\texit\t4294967295\n\
 -INTERNAL\t1\tlate\n-INTERNAL\t1\n-INTERNAL\t1\texit\n-INTERNAL\t1\texit\t00\n-INTERNAL\t1\tdied\t\n-INTERNAL\t1\texit\t1\t\n\
 -FAIL\t1\n-FAIL\t1\tdisk\n-FOUND\t1\n-FOUND\t1\tx\ta\ta=1\n-UNKNOWN\t4294967296";
-
-fn text(alloc: Global, bytes: &[u8]) -> Result<Text, AllocError> {
-    Text::from_slice(alloc, bytes)
-}
 
 fn query_of_kind(alloc: Global, kind: QueryKind) -> Result<Query, AllocError> {
     Ok(Query {
@@ -55,74 +52,91 @@ fn letter_to(alloc: Global, kind: QueryKind, line: &[u8]) -> Result<u8, AllocErr
     Ok(letter_of(&read_answer(alloc, &query_of_kind(alloc, kind)?, line)?))
 }
 
+fn query_again(alloc: Global, line: &[u8]) -> Result<Vec<u8>, AllocError> {
+    match read_query(alloc, line)? {
+        Some(query) => print(alloc, &query),
+        None => Ok(Vec::new(alloc)),
+    }
+}
+
+fn query_is_right(alloc: Global, case: &[u8]) -> Result<bool, AllocError> {
+    let Some((sign, line)) = case.split_first() else {
+        return Ok(false);
+    };
+    let wanted: &[u8] = if *sign == b'+' { line } else { b"" };
+    Ok(query_again(alloc, line)?.as_slice() == wanted)
+}
+
 #[test]
 fn queries_are_read_and_printed(rt: HostRuntime) -> Result<(), Fail> {
-    let alloc = rt.alloc();
     for case in QUERY_LINES.split(|byte| *byte == b'\n') {
-        if let Some((sign, line)) = case.split_first() {
-            let printed = match read_query(alloc, line)? {
-                Some(query) => print(alloc, &query)?,
-                None => Vec::new(alloc),
-            };
-            let wanted: &[u8] = if *sign == b'+' { line } else { b"" };
-            assert_eq!(rt; printed.as_slice(), wanted);
-        }
+        assert!(rt; query_is_right(rt.alloc(), case)?);
     }
     Ok(())
+}
+
+fn fits(alloc: Global, case: &[u8]) -> Result<bool, AllocError> {
+    match case {
+        [pass, check, user, line @ ..] => Ok(
+            letter_to(alloc, QueryKind::Pass, line)? == *pass
+                && letter_to(alloc, QueryKind::Check, line)? == *check
+                && letter_to(alloc, QueryKind::User, line)? == *user,
+        ),
+        _ => Ok(false),
+    }
 }
 
 #[test]
 fn lines_answer_the_queries_that_they_fit(rt: HostRuntime) -> Result<(), Fail> {
-    let alloc = rt.alloc();
     for case in ANSWER_LINES.split(|byte| *byte == b'\n') {
-        if case.len() >= 3 {
-            let line = &case[3..];
-            assert_eq!(rt; letter_to(alloc, QueryKind::Pass, line)?, case[0]);
-            assert_eq!(rt; letter_to(alloc, QueryKind::Check, line)?, case[1]);
-            assert_eq!(rt; letter_to(alloc, QueryKind::User, line)?, case[2]);
-        }
+        assert!(rt; fits(rt.alloc(), case)?);
     }
     Ok(())
 }
 
+fn answer_again(alloc: Global, line: &[u8]) -> Result<Vec<u8>, AllocError> {
+    match read_script_answer(alloc, line)? {
+        Some((number, answer)) => print_answer(alloc, number, &answer),
+        None => Ok(Vec::new(alloc)),
+    }
+}
+
+fn answer_is_right(alloc: Global, case: &[u8]) -> Result<bool, AllocError> {
+    let Some((sign, line)) = case.split_first() else {
+        return Ok(false);
+    };
+    let wanted: &[u8] = if *sign == b'+' { line } else { b"" };
+    Ok(answer_again(alloc, line)?.as_slice() == wanted)
+}
+
 #[test]
 fn answers_of_scripts_are_read_and_printed(rt: HostRuntime) -> Result<(), Fail> {
-    let alloc = rt.alloc();
     for case in SCRIPT_LINES.split(|byte| *byte == b'\n') {
-        if let Some((sign, line)) = case.split_first() {
-            let printed = match read_script_answer(alloc, line)? {
-                Some((number, answer)) => print_answer(alloc, number, &answer)?,
-                None => Vec::new(alloc),
-            };
-            let wanted: &[u8] = if *sign == b'+' { line } else { b"" };
-            assert_eq!(rt; printed.as_slice(), wanted);
-        }
+        assert!(rt; answer_is_right(rt.alloc(), case)?);
     }
     Ok(())
 }
 
 #[test]
 fn a_late_answer_is_printed_and_never_read(rt: HostRuntime) -> Result<(), Fail> {
-    let alloc = rt.alloc();
-    let line = print_answer(alloc, 1, &Answer::Internal(Why::Late))?;
-    assert_eq!(rt; line.as_slice(), b"INTERNAL\t1\tlate".as_slice());
-    assert!(rt; read_script_answer(alloc, &line)?.is_none());
+    let line = print_answer(rt.alloc(), 1, &Answer::Internal(Why::Late))?;
+    assert!(rt; line.as_slice() == b"INTERNAL\t1\tlate".as_slice());
+    assert!(rt; read_script_answer(rt.alloc(), &line)?.is_none());
     Ok(())
+}
+
+fn found(alloc: Global, stored: &[u8]) -> Result<Answer, AllocError> {
+    Ok(Answer::Found {
+        stored: text(alloc, stored)?,
+        fields: Fields::new(alloc),
+    })
 }
 
 #[test]
 fn an_answer_of_a_user_database_has_no_password(rt: HostRuntime) -> Result<(), Fail> {
     let alloc = rt.alloc();
-    let with = Answer::Found {
-        stored: text(alloc, b"x")?,
-        fields: Fields::new(alloc),
-    };
-    let without = Answer::Found {
-        stored: text(alloc, b"")?,
-        fields: Fields::new(alloc),
-    };
-    assert!(rt; fit(QueryKind::Pass, &with));
-    assert!(rt; !fit(QueryKind::User, &with));
-    assert!(rt; fit(QueryKind::User, &without));
+    assert!(rt; fit(QueryKind::Pass, &found(alloc, b"x")?));
+    assert!(rt; !fit(QueryKind::User, &found(alloc, b"x")?));
+    assert!(rt; fit(QueryKind::User, &found(alloc, b"")?));
     Ok(())
 }

@@ -1,71 +1,109 @@
+use crate::cases::cut;
 use da_tabline::*;
+use std::alloc::{AllocError, Global};
 use std::test::Fail;
+
+// Texts, each with its field behind `=`.
+const WRITTEN: &[u8] = b"a\x00\x01\x09\x0d\x0ab=a\x010\x011\x01t\x01r\x01nb|x=x";
+
+// Fields, each with its text behind `=`.
+const READ: &[u8] = b"a\x010\x011\x01t\x01r\x01nb=a\x00\x01\x09\x0d\x0ab|\x01x=x|b\x01=b";
+
+fn is_written(alloc: Global, case: &[u8]) -> Result<bool, AllocError> {
+    let (text, field) = cut(case, b'=');
+    Ok(escape(alloc, text)?.as_slice() == field)
+}
+
+fn is_read(alloc: Global, case: &[u8]) -> Result<bool, AllocError> {
+    let (field, text) = cut(case, b'=');
+    Ok(unescape(alloc, field)?.as_slice() == text)
+}
 
 #[test]
 fn escapes_are_written_and_read(rt: HostRuntime) -> Result<(), Fail> {
-    let alloc = rt.alloc();
-    let text = [0x61, 0x00, 0x01, 0x09, 0x0d, 0x0a, 0x62];
-    let field = [
-        0x61, 0x01, 0x30, 0x01, 0x31, 0x01, 0x74, 0x01, 0x72, 0x01, 0x6e, 0x62,
-    ];
-    assert_eq!(rt; escape(alloc, &text)?.as_slice(), field.as_slice());
-    assert_eq!(rt; unescape(alloc, &field)?.as_slice(), text.as_slice());
-    assert_eq!(rt; unescape(alloc, b"\x01x")?.as_slice(), b"x".as_slice());
-    assert_eq!(rt; escape(alloc, b"x")?.as_slice(), b"x".as_slice());
-    assert_eq!(rt; unescape(alloc, b"b\x01")?.as_slice(), b"b".as_slice());
+    for case in WRITTEN.split(|byte| *byte == b'|') {
+        assert!(rt; is_written(rt.alloc(), case)?);
+    }
+    for case in READ.split(|byte| *byte == b'|') {
+        assert!(rt; is_read(rt.alloc(), case)?);
+    }
     Ok(())
+}
+
+// Texts with a comma behind each.
+fn listed(alloc: Global, texts: &[Vec<u8>]) -> Result<Vec<u8>, AllocError> {
+    let mut all = Vec::new(alloc);
+    for text in texts {
+        all.extend_from_slice(text)?;
+        all.extend_from_slice(b",")?;
+    }
+    Ok(all)
+}
+
+fn cut_as_it_is(alloc: Global, line: &[u8]) -> Result<Vec<u8>, AllocError> {
+    listed(alloc, &fields(alloc, line)?)
+}
+
+fn cut_and_read(alloc: Global, line: &[u8]) -> Result<Vec<u8>, AllocError> {
+    listed(alloc, &unescaped_fields(alloc, line)?)
 }
 
 #[test]
 fn a_line_is_cut_at_each_tab(rt: HostRuntime) -> Result<(), Fail> {
-    let pieces = fields(rt.alloc(), b"a\t\tb")?;
-    assert_eq!(rt; pieces.len(), 3);
-    assert_eq!(rt; pieces[0].as_slice(), b"a".as_slice());
-    assert_eq!(rt; pieces[1].as_slice(), b"".as_slice());
-    assert_eq!(rt; pieces[2].as_slice(), b"b".as_slice());
-    assert_eq!(rt; fields(rt.alloc(), b"")?.len(), 1);
-    let texts = unescaped_fields(rt.alloc(), b"\x01t\t\x01")?;
-    assert_eq!(rt; texts.len(), 2);
-    assert_eq!(rt; texts[0].as_slice(), b"\t".as_slice());
-    assert_eq!(rt; texts[1].as_slice(), b"".as_slice());
+    let alloc = rt.alloc();
+    assert!(rt; cut_as_it_is(alloc, b"a\t\tb")?.as_slice() == b"a,,b,".as_slice());
+    assert!(rt; cut_as_it_is(alloc, b"")?.as_slice() == b",".as_slice());
+    assert!(rt; cut_and_read(alloc, b"\x01t\t\x01")?.as_slice() == b"\t,,".as_slice());
     Ok(())
 }
 
 #[test]
 fn numbers_have_no_leading_zeros_and_fit(rt: HostRuntime) {
-    assert_eq!(rt; decimal_u32(b"0"), Some(0));
-    assert_eq!(rt; decimal_u32(b"4294967295"), Some(4_294_967_295));
-    assert_eq!(rt; decimal_u32(b"4294967296"), None);
-    assert_eq!(rt; decimal_u32(b""), None);
-    assert_eq!(rt; decimal_u32(b"00"), None);
-    assert_eq!(rt; decimal_u32(b"+1"), None);
-    assert_eq!(rt;
-        decimal_number(b"18446744073709551615", u64::MAX),
-        Some(u64::MAX)
-    );
-    assert_eq!(rt; decimal_number(b"18446744073709551616", u64::MAX), None);
-    assert_eq!(rt; decimal_number(b"10", 9), None);
+    assert!(rt; decimal_u32(b"0") == Some(0));
+    assert!(rt; decimal_u32(b"4294967295") == Some(4_294_967_295));
+    for text in b"4294967296||00|+1".split(|byte| *byte == b'|') {
+        assert!(rt; decimal_u32(text).is_none());
+    }
+    assert!(rt; decimal_number(b"18446744073709551615", u64::MAX) == Some(u64::MAX));
+    assert!(rt; decimal_number(b"18446744073709551616", u64::MAX).is_none());
+    assert!(rt; decimal_number(b"10", 9).is_none());
+}
+
+// Whether the next line has so many bytes.
+fn has_next(lines: &mut Lines, wanted: usize) -> bool {
+    match lines.next() {
+        Some(line) => line.len() == wanted,
+        None => false,
+    }
+}
+
+fn is_cut(lines: &mut Lines, longest: &[u8]) -> bool {
+    lines.feed(b"a\nb").is_ok()
+        && lines.pending() == 1
+        && lines.feed(b"\n").is_ok()
+        && lines.feed(longest).is_ok()
+        && lines.feed(b"\n").is_ok()
+        && lines.pending() == 0
+}
+
+fn gives_three(lines: &mut Lines) -> bool {
+    has_next(lines, 1) && has_next(lines, 1) && has_next(lines, 8192) && lines.next().is_none()
+}
+
+fn refuses_a_longer_one(lines: &mut Lines, longest: &[u8]) -> bool {
+    lines.feed(b"c\nd").is_ok()
+        && lines.feed(longest) == Err(LineFault::TooLong)
+        && lines.feed(b"\ne\n") == Err(LineFault::TooLong)
+        && has_next(lines, 1)
+        && lines.next().is_none()
 }
 
 #[test]
 fn the_longest_line_has_as_many_bytes_as_are_allowed(rt: HostRuntime) -> Result<(), Fail> {
-    let alloc = rt.alloc();
-    let line = vec![in alloc; b'x'; 8192]?;
-    let mut lines = Lines::new(alloc, 8192);
-    assert!(rt; lines.feed(b"a\nb").is_ok());
-    assert_eq!(rt; lines.pending(), 1);
-    assert!(rt; lines.feed(b"\n").is_ok());
-    assert!(rt; lines.feed(&line).is_ok());
-    assert!(rt; lines.feed(b"\n").is_ok());
-    assert_eq!(rt; lines.pending(), 0);
-    assert_eq!(rt; lines.next().map(|line| line.len()), Some(1));
-    assert_eq!(rt; lines.next().map(|line| line.len()), Some(1));
-    assert_eq!(rt; lines.next().map(|line| line.len()), Some(8192));
-    assert_eq!(rt; lines.next().map(|line| line.len()), None);
-    assert!(rt; lines.feed(b"c\nd").is_ok());
-    assert!(rt; lines.feed(&line) == Err(LineFault::TooLong));
-    assert!(rt; lines.feed(b"\ne\n") == Err(LineFault::TooLong));
-    assert_eq!(rt; lines.next().map(|line| line.len()), Some(1));
-    assert_eq!(rt; lines.next().map(|line| line.len()), None);
+    let longest = vec![in rt.alloc(); b'x'; 8192]?;
+    let mut lines = Lines::new(rt.alloc(), 8192);
+    assert!(rt; is_cut(&mut lines, &longest));
+    assert!(rt; gives_three(&mut lines));
+    assert!(rt; refuses_a_longer_one(&mut lines, &longest));
     Ok(())
 }
