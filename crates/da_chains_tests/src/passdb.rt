@@ -1,11 +1,12 @@
 ghost use Rattle.da_passdb.specs.Cursors.{IsAlong};
 
-use da_fields::{Answer, Fields, QueryKind, Text, Why};
-use da_names::{VarText, Vars};
+use crate::cases::{add, add_fields, cut, fields_of, numbered, text, variable};
+use da_fields::{Answer, Fields, QueryKind, Text};
+use da_names::Vars;
 use da_passdb::*;
 use da_schemes::{Checked, Octets, Scheme, Stored};
-use std::alloc::{AllocError, Global};
-use std::test::Fail;
+use std::alloc::Global;
+use std::process::Abort;
 
 // Which databases are asked, and for whom.
 #[derive(Clone, Copy)]
@@ -34,19 +35,11 @@ enum Scene {
     Scram,
 }
 
-fn text(alloc: Global, bytes: &[u8]) -> Result<Text, AllocError> {
-    Text::from_slice(alloc, bytes)
-}
-
-fn variable(alloc: Global, bytes: &[u8]) -> Result<VarText, AllocError> {
-    VarText::from_slice(alloc, bytes)
-}
-
-fn worker(alloc: Global, number: u32) -> Result<Passdb, AllocError> {
-    Ok(Passdb {
+fn worker(alloc: Global, number: u32) -> Passdb {
+    Passdb {
         number,
         driver: Driver::Worker,
-        args: text(alloc, b"")?,
+        args: Text::new(Vec::new(alloc)),
         deny: false,
         master: false,
         skip: Skip::Never,
@@ -54,15 +47,14 @@ fn worker(alloc: Global, number: u32) -> Result<Passdb, AllocError> {
         result_failure: Rule::Continue,
         result_internalfail: Rule::Continue,
         default_scheme: Scheme::Plain,
-        username_filter: text(alloc, b"")?,
+        username_filter: Text::new(Vec::new(alloc)),
         default_fields: Fields::new(alloc),
         override_fields: Fields::new(alloc),
-    })
+    }
 }
 
-fn databases(alloc: Global, scene: Scene) -> Result<Vec<Passdb>, AllocError> {
-    let mut first = worker(alloc, 1)?;
-    let mut second = worker(alloc, 2)?;
+fn first<R: Abort>(rt: &R, alloc: Global, scene: Scene) -> Passdb {
+    let mut first = worker(alloc, 1);
     match scene {
         Scene::Plain | Scene::Cram | Scene::Scram => {}
         Scene::Deny => first.deny = true,
@@ -73,299 +65,295 @@ fn databases(alloc: Global, scene: Scene) -> Result<Vec<Passdb>, AllocError> {
         Scene::MasterReturns => first.master = true,
         Scene::ContinueOk => {
             first.result_success = Rule::ContinueOk;
-            first
-                .override_fields
-                .set(text(alloc, b"quota")?, text(alloc, b"%s")?)?;
+            first.override_fields = fields_of(rt, alloc, b"quota=%s");
         }
-        Scene::SkipsAuthenticated => {
-            first.result_success = Rule::ContinueOk;
-            second.skip = Skip::Authenticated;
-        }
-        Scene::Check => {
-            first.result_success = Rule::Continue;
-            second.driver = Driver::Checkpassword;
-        }
-        Scene::Filter => first.username_filter = text(alloc, b"*@example.com")?,
-        Scene::ReturnFail => {
-            first.result_success = Rule::ContinueOk;
-            second.result_internalfail = Rule::ReturnFail;
-        }
+        Scene::SkipsAuthenticated | Scene::ReturnFail => first.result_success = Rule::ContinueOk,
+        Scene::Check => first.result_success = Rule::Continue,
+        Scene::Filter => first.username_filter = text(rt, alloc, b"*@example.com"),
     }
+    first
+}
+
+fn second(alloc: Global, scene: Scene) -> Passdb {
+    let mut second = worker(alloc, 2);
+    match scene {
+        Scene::SkipsAuthenticated => second.skip = Skip::Authenticated,
+        Scene::Check => second.driver = Driver::Checkpassword,
+        Scene::ReturnFail => second.result_internalfail = Rule::ReturnFail,
+        _ => {}
+    }
+    second
+}
+
+fn databases<R: Abort>(rt: &R, alloc: Global, scene: Scene) -> Vec<Passdb> {
     let mut dbs = Vec::new(alloc);
-    dbs.push(first.copy(alloc)?)?;
-    dbs.push(second)?;
-    Ok(dbs)
+    let copy = first(rt, alloc, scene).copy(alloc).expect(rt, "memory");
+    dbs.push(copy).expect(rt, "memory");
+    dbs.push(second(alloc, scene)).expect(rt, "memory");
+    dbs
+}
+
+fn user_of(scene: Scene) -> &'static [u8] {
+    match scene {
+        Scene::Master | Scene::MasterReturns => b"bob",
+        _ => b"alice",
+    }
+}
+
+fn master_of<R: Abort>(rt: &R, alloc: Global, scene: Scene) -> Option<Text> {
+    match scene {
+        Scene::Master | Scene::MasterReturns => Some(text(rt, alloc, b"root")),
+        _ => None,
+    }
+}
+
+fn proof_of<R: Abort>(rt: &R, alloc: Global, scene: Scene) -> Proof {
+    match scene {
+        Scene::Cram => Proof::Cram,
+        Scene::Scram => Proof::Scram,
+        _ => Proof::Plain(text(rt, alloc, b"pw")),
+    }
+}
+
+fn vars_of<R: Abort>(rt: &R, alloc: Global, user: &[u8]) -> Vars {
+    Vars {
+        user: variable(rt, alloc, user),
+        service: variable(rt, alloc, b"imap"),
+        rip: variable(rt, alloc, b"127.0.0.1"),
+        lip: variable(rt, alloc, b"127.0.0.1"),
+    }
 }
 
 // A login with the password `pw`.
-fn login(alloc: Global, scene: Scene) -> Result<Login, AllocError> {
-    let (user, master): (&[u8], Option<Text>) = match scene {
-        Scene::Master | Scene::MasterReturns => (b"bob", Some(text(alloc, b"root")?)),
-        _ => (b"alice", None),
-    };
-    Ok(Login {
-        user: text(alloc, user)?,
-        master,
-        proof: match scene {
-            Scene::Cram => Proof::Cram,
-            Scene::Scram => Proof::Scram,
-            _ => Proof::Plain(text(alloc, b"pw")?),
-        },
-        vars: Vars {
-            user: variable(alloc, user)?,
-            service: variable(alloc, b"imap")?,
-            rip: variable(alloc, b"127.0.0.1")?,
-            lip: variable(alloc, b"127.0.0.1")?,
-        },
-    })
-}
-
-// The key and the value of a word.
-fn key_and_value(word: &[u8]) -> (&[u8], &[u8]) {
-    let mut parts = word.splitn(2, |byte| *byte == b'=');
-    (parts.next().unwrap_or(b""), parts.next().unwrap_or(b""))
-}
-
-// The answer that a text tells: a letter, for a stored password that password, and fields.
-fn answer(alloc: Global, reported: &[u8]) -> Result<Answer, AllocError> {
-    let Some((letter, rest)) = reported.split_first() else {
-        return Ok(Answer::Unknown);
-    };
-    let mut words = rest.split(|byte| *byte == b' ');
-    let stored = text(alloc, words.next().unwrap_or(b""))?;
-    let mut fields = Fields::new(alloc);
-    for word in words {
-        let (key, value) = key_and_value(word);
-        fields.set(text(alloc, key)?, text(alloc, value)?)?;
+fn login<R: Abort>(rt: &R, alloc: Global, scene: Scene) -> Login {
+    let user = user_of(scene);
+    Login {
+        user: text(rt, alloc, user),
+        master: master_of(rt, alloc, scene),
+        proof: proof_of(rt, alloc, scene),
+        vars: vars_of(rt, alloc, user),
     }
-    Ok(match *letter {
-        b'F' => Answer::Found { stored, fields },
-        b'P' => Answer::Passed { fields },
-        b'M' => Answer::Mismatch,
-        b'I' => Answer::Internal(Why::Said),
-        _ => Answer::Unknown,
-    })
+}
+
+fn kind_word(kind: VerdictKind) -> &'static [u8] {
+    match kind {
+        VerdictKind::Ok => b"ok ",
+        VerdictKind::Fail => b"fail ",
+        VerdictKind::Temp => b"temp ",
+        VerdictKind::Disabled => b"disabled ",
+    }
+}
+
+fn add_verdict<R: Abort>(rt: &R, line: &mut Vec<u8>, verdict: &Verdict) {
+    add(rt, line, kind_word(verdict.kind));
+    add(rt, line, verdict.user.bytes());
+    if verdict.authz {
+        add(rt, line, b" authz");
+    }
+    if verdict.credentials.is_some() {
+        add(rt, line, b" stored");
+    }
+    add_fields(rt, line, &verdict.fields);
+}
+
+fn query_word(kind: QueryKind) -> &'static [u8] {
+    match kind {
+        QueryKind::Check => b"check ",
+        _ => b"pass ",
+    }
 }
 
 // What a chain tells, as a text.
-fn shown(alloc: Global, chain: &Chain) -> Result<Vec<u8>, AllocError> {
+fn shown<R: Abort>(rt: &R, alloc: Global, chain: &Chain) -> Vec<u8> {
     let mut line = Vec::new(alloc);
     match chain {
         Chain::Ask { db, kind, user, .. } => {
-            line.extend_from_slice(match kind {
-                QueryKind::Check => b"check ",
-                _ => b"pass ",
-            })?;
-            line.push(if *db == 1 { b'1' } else { b'2' })?;
-            line.push(b' ')?;
-            line.extend_from_slice(user.bytes())?;
+            add(rt, &mut line, query_word(*kind));
+            add(rt, &mut line, if *db == 1 { b"1 " } else { b"2 " });
+            add(rt, &mut line, user.bytes());
         }
-        Chain::Done(verdict) => {
-            line.extend_from_slice(match verdict.kind {
-                VerdictKind::Ok => b"ok ",
-                VerdictKind::Fail => b"fail ",
-                VerdictKind::Temp => b"temp ",
-                VerdictKind::Disabled => b"disabled ",
-            })?;
-            line.extend_from_slice(verdict.user.bytes())?;
-            if verdict.authz {
-                line.extend_from_slice(b" authz")?;
-            }
-            if verdict.credentials.is_some() {
-                line.extend_from_slice(b" stored")?;
-            }
-            for (key, value) in verdict.fields.pairs() {
-                line.push(b' ')?;
-                line.extend_from_slice(key.bytes())?;
-                line.push(b'=')?;
-                line.extend_from_slice(value.bytes())?;
-            }
-        }
+        Chain::Done(verdict) => add_verdict(rt, &mut line, verdict),
     }
-    Ok(line)
+    line
 }
 
-// The answers of the databases 1, 2 and so on, with bars between them.
-fn numbered(alloc: Global, reported: &[u8]) -> Result<Vec<(u32, Answer)>, AllocError> {
-    let mut answers = Vec::new(alloc);
-    if reported.is_empty() {
-        return Ok(answers);
+// Whether the chain tells what the case says from all answers at once.
+fn is_told_at_once<R: Abort>(
+    rt: &R,
+    alloc: Global,
+    dbs: &[Passdb],
+    login: &Login,
+    case: &[u8],
+) -> bool {
+    let (reported, wanted) = cut(case, b'>');
+    if !are_valid_passdbs(dbs) {
+        return false;
     }
-    let mut number: u32 = 0;
-    for one in reported.split(|byte| *byte == b'|') {
-        number = number.saturating_add(1);
-        answers.push((number, answer(alloc, one)?))?;
-    }
-    Ok(answers)
-}
-
-// What the chain tells from all answers at once.
-fn told_at_once(alloc: Global, scene: Scene, reported: &[u8]) -> Result<Vec<u8>, AllocError> {
-    let dbs = databases(alloc, scene)?;
-    if !are_valid_passdbs(&dbs) {
-        return Vec::from_slice(alloc, b"not valid");
-    }
-    let login = login(alloc, scene)?;
-    let answers = numbered(alloc, reported)?;
-    let chain = next(alloc, &dbs, &login, &answers)?;
-    shown(alloc, &chain)
+    let answers = numbered(rt, alloc, reported);
+    let chain = next(alloc, dbs, login, &answers).expect(rt, "memory");
+    shown(rt, alloc, &chain).as_slice() == wanted
 }
 
 // Lets a chain take an answer, where it asks.
-fn take_one(
+fn take_one<R: Abort>(
+    rt: &R,
     alloc: Global,
     dbs: &[Passdb],
     cursor: &mut Cursor,
     answer: &Answer,
     memo: &[Checked],
-) -> Result<(), AllocError>
+)
     requires { IsAlong dbs.now cursor.old }
     ensures { IsAlong dbs.now cursor.new }
 {
-    let answer = answer.copy(alloc)?;
-    match cursor.at(alloc, dbs)? {
-        Chain::Ask { .. } => cursor.take(dbs, answer, memo),
-        Chain::Done(_) => Ok(()),
+    let answer = answer.copy(alloc).expect(rt, "memory");
+    match cursor.at(alloc, dbs).expect(rt, "memory") {
+        Chain::Ask { .. } => cursor.take(dbs, answer, memo).expect(rt, "memory"),
+        Chain::Done(_) => {}
     }
 }
 
-fn take_all(
+fn take_all<R: Abort>(
+    rt: &R,
     alloc: Global,
     dbs: &[Passdb],
     cursor: &mut Cursor,
     answers: &[(u32, Answer)],
     memo: &[Checked],
-) -> Result<(), AllocError>
+)
     requires { IsAlong dbs.now cursor.old }
     ensures { IsAlong dbs.now cursor.new }
 {
     for (_, answer) in answers {
-        take_one(alloc, dbs, cursor, answer, memo)?;
+        take_one(rt, alloc, dbs, cursor, answer, memo);
     }
-    Ok(())
 }
 
-// What the chain tells answer by answer.
-fn told_by_cursor(
+// Whether the chain tells what the case says answer by answer.
+fn is_told_by_cursor<R: Abort>(
+    rt: &R,
+    alloc: Global,
+    dbs: &[Passdb],
+    login: &Login,
+    case: &[u8],
+    memo: &[Checked],
+) -> bool {
+    let (reported, wanted) = cut(case, b'>');
+    if !are_valid_passdbs(dbs) {
+        return false;
+    }
+    let login = login.copy(alloc).expect(rt, "memory");
+    let mut cursor = Cursor::new(alloc, dbs, login).expect(rt, "memory");
+    let answers = numbered(rt, alloc, reported);
+    take_all(rt, alloc, dbs, &mut cursor, &answers, memo);
+    let copy = cursor.copy(alloc).expect(rt, "memory");
+    let chain = copy.at(alloc, dbs).expect(rt, "memory");
+    shown(rt, alloc, &chain).as_slice() == wanted
+}
+
+// Whether all cases of a scene are right: answer by answer where there is a memo.
+fn are_right<R: Abort>(
+    rt: &R,
     alloc: Global,
     scene: Scene,
-    reported: &[u8],
-    memo: &[Checked],
-) -> Result<Vec<u8>, AllocError> {
-    let dbs = databases(alloc, scene)?;
-    if !are_valid_passdbs(&dbs) {
-        return Vec::from_slice(alloc, b"not valid");
+    cases: &[u8],
+    memo: Option<&[Checked]>,
+) -> bool {
+    let dbs = databases(rt, alloc, scene);
+    let login = login(rt, alloc, scene);
+    let mut right = true;
+    for case in cases.split(|byte| *byte == b'\n') {
+        let told = match memo {
+            None => is_told_at_once(rt, alloc, &dbs, &login, case),
+            Some(memo) => is_told_by_cursor(rt, alloc, &dbs, &login, case, memo),
+        };
+        right = right && told;
     }
-    let login = login(alloc, scene)?;
-    let answers = numbered(alloc, reported)?;
-    let mut cursor = Cursor::new(alloc, &dbs, login.copy(alloc)?)?;
-    take_all(alloc, &dbs, &mut cursor, &answers, memo)?;
-    let copy = cursor.copy(alloc)?;
-    let chain = copy.at(alloc, &dbs)?;
-    shown(alloc, &chain)
+    right
 }
 
 // A stored password held against `plain`.
-fn checked(alloc: Global, stored: &[u8], plain: &[u8]) -> Result<Checked, AllocError> {
-    let Ok(stored) = Stored::read(alloc, Scheme::Plain, stored) else {
-        return Err(AllocError);
-    };
-    let plain = Octets::new(Vec::from_slice(alloc, plain)?);
-    Ok(Checked::new(stored, plain))
+fn checked<R: Abort>(rt: &R, alloc: Global, stored: &[u8], plain: &[u8]) -> Checked {
+    let stored = Stored::read(alloc, Scheme::Plain, stored).expect(rt, "a stored password");
+    let plain = Octets::new(Vec::from_slice(alloc, plain).expect(rt, "memory"));
+    Checked::new(stored, plain)
 }
 
-const CASES: [(Scene, &str, &str); 33] = [
-    (Scene::Plain, "", "pass 1 alice"),
-    (Scene::Plain, "I", "pass 2 alice"),
-    (Scene::Plain, "I|U", "temp alice"),
-    (Scene::Plain, "U|U", "fail alice"),
+fn memo<R: Abort>(rt: &R, alloc: Global) -> Vec<Checked> {
+    let mut memo = Vec::new(alloc);
+    for (stored, plain) in [
+        ("{PLAIN}pw", "no"),
+        ("{PLAIN}no", "no"),
+        ("{PLAIN}pw", "pw"),
+    ] {
+        let one = checked(rt, alloc, stored.as_bytes(), plain.as_bytes());
+        memo.push(one).expect(rt, "memory");
+    }
+    memo
+}
+
+// The cases of each scene: answers with bars between them, and behind `>` what the chain tells then.
+const CASES: [(Scene, &[u8]); 11] = [
     (
         Scene::Plain,
-        "F{PLAIN}pw home=/h",
-        "ok alice stored home=/h",
+        b">pass 1 alice\nI>pass 2 alice\nI|U>temp alice\nU|U>fail alice\nF{PLAIN}pw home=/h>ok alice stored home=/h\n\
+F{PLAIN}no home=/h|U>fail alice\nF{CRYPT}x|Fpw>ok alice stored\nP|U>temp alice",
     ),
-    (Scene::Plain, "F{PLAIN}no home=/h|U", "fail alice"),
-    (Scene::Plain, "F{CRYPT}x|Fpw", "ok alice stored"),
-    (Scene::Plain, "P|U", "temp alice"),
-    (Scene::Deny, "F", "disabled alice"),
-    (Scene::Deny, "I", "temp alice"),
-    (Scene::Deny, "U", "pass 2 alice"),
-    (Scene::Master, "", "pass 1 root"),
-    (Scene::Master, "F{PLAIN}pw", "pass 2 bob"),
-    (Scene::Master, "F{PLAIN}pw|U", "fail bob authz stored"),
+    (
+        Scene::Deny,
+        b"F>disabled alice\nI>temp alice\nU>pass 2 alice",
+    ),
     (
         Scene::Master,
-        "F{PLAIN}pw|F{PLAIN}other",
-        "ok bob authz stored",
+        b">pass 1 root\nF{PLAIN}pw>pass 2 bob\nF{PLAIN}pw|U>fail bob authz stored\n\
+F{PLAIN}pw|F{PLAIN}other>ok bob authz stored\nF{PLAIN}no>fail bob",
     ),
-    (Scene::Master, "F{PLAIN}no", "fail bob"),
-    (Scene::MasterReturns, "F{PLAIN}pw", "ok bob stored"),
+    (Scene::MasterReturns, b"F{PLAIN}pw>ok bob stored"),
     (
         Scene::ContinueOk,
-        "F{PLAIN}pw quota=big mail=a|F{PLAIN}pw allow_nets=10.0.0.0/8 mail=b",
-        "ok alice stored quota=imap mail=a",
+        b"F{PLAIN}pw quota=big mail=a|F{PLAIN}pw allow_nets=10.0.0.0/8 mail=b>ok alice stored quota=imap mail=a\n\
+F{PLAIN}pw|F{PLAIN}other mail=b>ok alice stored quota=imap mail=b",
     ),
     (
-        Scene::ContinueOk,
-        "F{PLAIN}pw|F{PLAIN}other mail=b",
-        "ok alice stored quota=imap mail=b",
+        Scene::SkipsAuthenticated,
+        b"F{PLAIN}pw>ok alice stored\nU>pass 2 alice",
     ),
-    (Scene::SkipsAuthenticated, "F{PLAIN}pw", "ok alice stored"),
-    (Scene::SkipsAuthenticated, "U", "pass 2 alice"),
-    (Scene::Check, "", "pass 1 alice"),
-    (Scene::Check, "U", "check 2 alice"),
-    (Scene::Check, "U|P home=/h", "ok alice home=/h"),
-    (Scene::Check, "U|P allow_nets=10.0.0.0/8", "fail alice"),
-    (Scene::Check, "U|M", "fail alice"),
-    (Scene::Check, "F{PLAIN}pw", "fail alice stored"),
-    (Scene::Filter, "", "pass 2 alice"),
-    (Scene::ReturnFail, "F{PLAIN}pw|I", "temp alice stored"),
-    (Scene::Cram, "F{PLAIN}pw", "ok alice stored"),
+    (
+        Scene::Check,
+        b">pass 1 alice\nU>check 2 alice\nU|P home=/h>ok alice home=/h\nU|P allow_nets=10.0.0.0/8>fail alice\n\
+U|M>fail alice\nF{PLAIN}pw>fail alice stored",
+    ),
+    (Scene::Filter, b">pass 2 alice"),
+    (Scene::ReturnFail, b"F{PLAIN}pw|I>temp alice stored"),
     (
         Scene::Cram,
-        "F{SHA}qZk+NkcGgWq6PiVxeFDCbJzQ2J0=|U",
-        "fail alice",
+        b"F{PLAIN}pw>ok alice stored\nF{SHA}qZk+NkcGgWq6PiVxeFDCbJzQ2J0=|U>fail alice",
     ),
     (
         Scene::Scram,
-        "F{SHA}qZk+NkcGgWq6PiVxeFDCbJzQ2J0=|U",
-        "fail alice",
-    ),
-    (
-        Scene::Scram,
-        "F{SCRAM-SHA-256}4096,W22ZaJ0SNY7soEsUEjb6gQ==,AAAAAAAAAAAAAAAAAAAAAAAAAAAAAAAAAAAAAAAAAAA=,AAAAAAAAAAAAAAAAAAAAAAAAAAAAAAAAAAAAAAAAAAA=",
-        "ok alice stored",
+        b"F{SHA}qZk+NkcGgWq6PiVxeFDCbJzQ2J0=|U>fail alice\n\
+F{SCRAM-SHA-256}4096,W22ZaJ0SNY7soEsUEjb6gQ==,AAAAAAAAAAAAAAAAAAAAAAAAAAAAAAAAAAAAAAAAAAA=,AAAAAAAAAAAAAAAAAAAAAAAAAAAAAAAAAAAAAAAAAAA=>ok alice stored",
     ),
 ];
 
 #[test]
-fn all_answers_at_once_lead_to_the_next_question(rt: HostRuntime) -> Result<(), Fail> {
-    for (scene, reported, want) in CASES {
-        let chain = told_at_once(rt.alloc(), scene, reported.as_bytes())?;
-        assert_eq!(rt; chain.as_slice(), want.as_bytes());
+fn all_answers_at_once_lead_to_the_next_question(rt: HostRuntime) {
+    for (scene, cases) in CASES {
+        assert!(rt; are_right(&rt, rt.alloc(), scene, cases, None));
     }
-    Ok(())
 }
 
 #[test]
-fn one_answer_after_the_other_leads_there_too(rt: HostRuntime) -> Result<(), Fail> {
-    for (scene, reported, want) in CASES {
-        let chain = told_by_cursor(rt.alloc(), scene, reported.as_bytes(), &[])?;
-        assert_eq!(rt; chain.as_slice(), want.as_bytes());
+fn one_answer_after_the_other_leads_there_too(rt: HostRuntime) {
+    for (scene, cases) in CASES {
+        assert!(rt; are_right(&rt, rt.alloc(), scene, cases, Some(&[])));
     }
-    Ok(())
 }
 
 #[test]
-fn passwords_checked_before_make_no_difference(rt: HostRuntime) -> Result<(), Fail> {
-    let alloc = rt.alloc();
-    let mut memo = Vec::new(alloc);
-    memo.push(checked(alloc, b"{PLAIN}pw", b"no")?)?;
-    memo.push(checked(alloc, b"{PLAIN}no", b"no")?)?;
-    memo.push(checked(alloc, b"{PLAIN}pw", b"pw")?)?;
-    for (scene, reported, want) in CASES {
-        let chain = told_by_cursor(alloc, scene, reported.as_bytes(), &memo)?;
-        assert_eq!(rt; chain.as_slice(), want.as_bytes());
+fn passwords_checked_before_make_no_difference(rt: HostRuntime) {
+    let memo = memo(&rt, rt.alloc());
+    for (scene, cases) in CASES {
+        assert!(rt; are_right(&rt, rt.alloc(), scene, cases, Some(&memo)));
     }
-    Ok(())
 }

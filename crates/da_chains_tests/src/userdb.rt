@@ -1,10 +1,11 @@
 ghost use Rattle.da_userdb.specs.UserCursors.{IsAlong};
 
-use da_fields::{Answer, Fields, Text, Why};
-use da_names::{VarText, Vars};
+use crate::cases::{add, add_fields, cut, fields_of, numbered, text, variable};
+use da_fields::{Answer, Fields, Text};
+use da_names::Vars;
 use da_userdb::*;
-use std::alloc::{AllocError, Global};
-use std::test::Fail;
+use std::alloc::Global;
+use std::process::Abort;
 
 // Which databases are asked.
 #[derive(Clone, Copy)]
@@ -21,258 +22,206 @@ enum Scene {
     SkipsNotFound,
 }
 
-fn text(alloc: Global, bytes: &[u8]) -> Result<Text, AllocError> {
-    Text::from_slice(alloc, bytes)
-}
-
-fn variable(alloc: Global, bytes: &[u8]) -> Result<VarText, AllocError> {
-    VarText::from_slice(alloc, bytes)
-}
-
-fn worker(alloc: Global, number: u32) -> Result<Userdb, AllocError> {
-    Ok(Userdb {
+fn worker(alloc: Global, number: u32) -> Userdb {
+    Userdb {
         number,
         driver: UserDriver::Worker,
-        args: text(alloc, b"")?,
+        args: Text::new(Vec::new(alloc)),
         skip: UserSkip::Never,
         result_success: UserRule::ReturnOk,
         result_failure: UserRule::Continue,
         result_internalfail: UserRule::Continue,
         default_fields: Fields::new(alloc),
         override_fields: Fields::new(alloc),
-    })
+    }
 }
 
-fn databases(alloc: Global, scene: Scene) -> Result<Vec<Userdb>, AllocError> {
-    let mut first = worker(alloc, 1)?;
-    let mut second = worker(alloc, 2)?;
+fn first<R: Abort>(rt: &R, alloc: Global, scene: Scene) -> Userdb {
+    let mut first = worker(alloc, 1);
     match scene {
-        Scene::Plain => {}
+        Scene::Plain | Scene::SkipsNotFound => {}
         Scene::Prefetch => first.driver = UserDriver::Prefetch,
         Scene::Continue => {
             first.result_success = UserRule::ContinueOk;
-            first
-                .default_fields
-                .set(text(alloc, b"gid")?, text(alloc, b"100")?)?;
-            first
-                .override_fields
-                .set(text(alloc, b"home")?, text(alloc, b"/home/%n")?)?;
-            second.skip = UserSkip::Found;
+            first.default_fields = fields_of(rt, alloc, b"gid=100");
+            first.override_fields = fields_of(rt, alloc, b"home=/home/%n");
         }
         Scene::ReturnFail => first.result_internalfail = UserRule::ReturnFail,
+    }
+    first
+}
+
+fn second(alloc: Global, scene: Scene) -> Userdb {
+    let mut second = worker(alloc, 2);
+    match scene {
+        Scene::Continue => second.skip = UserSkip::Found,
         Scene::SkipsNotFound => second.skip = UserSkip::NotFound,
+        _ => {}
     }
+    second
+}
+
+fn databases<R: Abort>(rt: &R, alloc: Global, scene: Scene) -> Vec<Userdb> {
     let mut dbs = Vec::new(alloc);
-    dbs.push(first.copy(alloc)?)?;
-    dbs.push(second)?;
-    Ok(dbs)
+    let copy = first(rt, alloc, scene).copy(alloc).expect(rt, "memory");
+    dbs.push(copy).expect(rt, "memory");
+    dbs.push(second(alloc, scene)).expect(rt, "memory");
+    dbs
 }
 
-fn variables(alloc: Global) -> Result<Vars, AllocError> {
-    Ok(Vars {
-        user: variable(alloc, b"alice@example.com")?,
-        service: variable(alloc, b"imap")?,
-        rip: variable(alloc, b"127.0.0.1")?,
-        lip: variable(alloc, b"127.0.0.1")?,
-    })
-}
-
-// The key and the value of a word.
-fn key_and_value(word: &[u8]) -> (&[u8], &[u8]) {
-    let mut parts = word.splitn(2, |byte| *byte == b'=');
-    (parts.next().unwrap_or(b""), parts.next().unwrap_or(b""))
-}
-
-// The fields of some words.
-fn fields(alloc: Global, reported: &[u8]) -> Result<Fields, AllocError> {
-    let mut fields = Fields::new(alloc);
-    if reported.is_empty() {
-        return Ok(fields);
+fn variables<R: Abort>(rt: &R, alloc: Global) -> Vars {
+    Vars {
+        user: variable(rt, alloc, b"alice@example.com"),
+        service: variable(rt, alloc, b"imap"),
+        rip: variable(rt, alloc, b"127.0.0.1"),
+        lip: variable(rt, alloc, b"127.0.0.1"),
     }
-    for word in reported.split(|byte| *byte == b' ') {
-        let (key, value) = key_and_value(word);
-        fields.set(text(alloc, key)?, text(alloc, value)?)?;
-    }
-    Ok(fields)
 }
 
-// The answer that a text tells: a letter, and fields. `S` has a stored password, which no user database gives.
-fn answer(alloc: Global, reported: &[u8]) -> Result<Answer, AllocError> {
-    let Some((letter, rest)) = reported.split_first() else {
-        return Ok(Answer::Unknown);
-    };
-    let fields = fields(alloc, rest)?;
-    Ok(match *letter {
-        b'F' => Answer::Found {
-            stored: text(alloc, b"")?,
-            fields,
-        },
-        b'S' => Answer::Found {
-            stored: text(alloc, b"{PLAIN}pw")?,
-            fields,
-        },
-        b'I' => Answer::Internal(Why::Said),
-        _ => Answer::Unknown,
-    })
+fn user<R: Abort>(rt: &R, alloc: Global) -> Text {
+    text(rt, alloc, b"alice@example.com")
 }
 
 // What a chain tells, as a text.
-fn shown(alloc: Global, chain: &UserChain) -> Result<Vec<u8>, AllocError> {
+fn shown<R: Abort>(rt: &R, alloc: Global, chain: &UserChain) -> Vec<u8> {
     let mut line = Vec::new(alloc);
     match chain {
-        UserChain::Ask { db } => {
-            line.extend_from_slice(if *db == 1 { b"ask 1" } else { b"ask 2" })?;
-        }
+        UserChain::Ask { db } => add(rt, &mut line, if *db == 1 { b"ask 1" } else { b"ask 2" }),
         UserChain::Found { fields } => {
-            line.extend_from_slice(b"found")?;
-            for (key, value) in fields.pairs() {
-                line.push(b' ')?;
-                line.extend_from_slice(key.bytes())?;
-                line.push(b'=')?;
-                line.extend_from_slice(value.bytes())?;
-            }
+            add(rt, &mut line, b"found");
+            add_fields(rt, &mut line, fields);
         }
-        UserChain::NotFound => line.extend_from_slice(b"not found")?,
-        UserChain::Temp => line.extend_from_slice(b"temp")?,
+        UserChain::NotFound => add(rt, &mut line, b"not found"),
+        UserChain::Temp => add(rt, &mut line, b"temp"),
     }
-    Ok(line)
+    line
 }
 
-// The answers of the databases 1, 2 and so on, with bars between them.
-fn numbered(alloc: Global, reported: &[u8]) -> Result<Vec<(u32, Answer)>, AllocError> {
-    let mut answers = Vec::new(alloc);
-    if reported.is_empty() {
-        return Ok(answers);
-    }
-    let mut number: u32 = 0;
-    for one in reported.split(|byte| *byte == b'|') {
-        number = number.saturating_add(1);
-        answers.push((number, answer(alloc, one)?))?;
-    }
-    Ok(answers)
-}
-
-// What the chain tells from all answers at once.
-fn told_at_once(
+// Whether the chain tells this from all answers at once.
+fn tells_at_once<R: Abort>(
+    rt: &R,
     alloc: Global,
-    scene: Scene,
+    dbs: &[Userdb],
     given: &[u8],
-    reported: &[u8],
-) -> Result<Vec<u8>, AllocError> {
-    let dbs = databases(alloc, scene)?;
-    if !are_valid_userdbs(&dbs) {
-        return Vec::from_slice(alloc, b"not valid");
+    answers: &[(u32, Answer)],
+    wanted: &[u8],
+) -> bool {
+    if !are_valid_userdbs(dbs) {
+        return false;
     }
-    let user = text(alloc, b"alice@example.com")?;
-    let given = fields(alloc, given)?;
-    let vars = variables(alloc)?;
-    let answers = numbered(alloc, reported)?;
-    let chain = user_next(alloc, &dbs, &user, &given, &vars, &answers)?;
-    shown(alloc, &chain)
+    let user = user(rt, alloc);
+    let given = fields_of(rt, alloc, given);
+    let vars = variables(rt, alloc);
+    let chain = user_next(alloc, dbs, &user, &given, &vars, answers).expect(rt, "memory");
+    shown(rt, alloc, &chain).as_slice() == wanted
 }
 
 // Lets a chain take an answer, where it asks.
-fn take_one(
+fn take_one<R: Abort>(
+    rt: &R,
     alloc: Global,
     dbs: &[Userdb],
     cursor: &mut UserCursor,
     answer: &Answer,
-) -> Result<(), AllocError>
+)
     requires { IsAlong dbs.now cursor.old }
     ensures { IsAlong dbs.now cursor.new }
 {
-    let answer = answer.copy(alloc)?;
-    match cursor.at(alloc, dbs)? {
-        UserChain::Ask { .. } => cursor.take(dbs, answer),
-        UserChain::Found { .. } | UserChain::NotFound | UserChain::Temp => Ok(()),
+    let answer = answer.copy(alloc).expect(rt, "memory");
+    match cursor.at(alloc, dbs).expect(rt, "memory") {
+        UserChain::Ask { .. } => cursor.take(dbs, answer).expect(rt, "memory"),
+        UserChain::Found { .. } | UserChain::NotFound | UserChain::Temp => {}
     }
 }
 
-fn take_all(
+fn take_all<R: Abort>(
+    rt: &R,
     alloc: Global,
     dbs: &[Userdb],
     cursor: &mut UserCursor,
     answers: &[(u32, Answer)],
-) -> Result<(), AllocError>
+)
     requires { IsAlong dbs.now cursor.old }
     ensures { IsAlong dbs.now cursor.new }
 {
     for (_, answer) in answers {
-        take_one(alloc, dbs, cursor, answer)?;
+        take_one(rt, alloc, dbs, cursor, answer);
     }
-    Ok(())
 }
 
-// What the chain tells answer by answer.
-fn told_by_cursor(
+// Whether the chain tells this answer by answer.
+fn tells_by_cursor<R: Abort>(
+    rt: &R,
     alloc: Global,
-    scene: Scene,
+    dbs: &[Userdb],
     given: &[u8],
-    reported: &[u8],
-) -> Result<Vec<u8>, AllocError> {
-    let dbs = databases(alloc, scene)?;
-    if !are_valid_userdbs(&dbs) {
-        return Vec::from_slice(alloc, b"not valid");
+    answers: &[(u32, Answer)],
+    wanted: &[u8],
+) -> bool {
+    if !are_valid_userdbs(dbs) {
+        return false;
     }
-    let user = text(alloc, b"alice@example.com")?;
-    let given = fields(alloc, given)?;
-    let vars = variables(alloc)?;
-    let answers = numbered(alloc, reported)?;
-    let mut cursor = UserCursor::new(alloc, &dbs, user, given, vars)?;
-    take_all(alloc, &dbs, &mut cursor, &answers)?;
-    let copy = cursor.copy(alloc)?;
-    let chain = copy.at(alloc, &dbs)?;
-    shown(alloc, &chain)
+    let user = user(rt, alloc);
+    let given = fields_of(rt, alloc, given);
+    let vars = variables(rt, alloc);
+    let mut cursor = UserCursor::new(alloc, dbs, user, given, vars).expect(rt, "memory");
+    take_all(rt, alloc, dbs, &mut cursor, answers);
+    let copy = cursor.copy(alloc).expect(rt, "memory");
+    let chain = copy.at(alloc, dbs).expect(rt, "memory");
+    shown(rt, alloc, &chain).as_slice() == wanted
 }
 
-const CASES: [(Scene, &str, &str, &str); 16] = [
-    (Scene::Plain, "", "", "ask 1"),
+fn is_right<R: Abort>(rt: &R, alloc: Global, dbs: &[Userdb], case: &[u8], by_cursor: bool) -> bool {
+    let (given, told) = cut(case, b';');
+    let (reported, wanted) = cut(told, b'>');
+    let answers = numbered(rt, alloc, reported);
+    if by_cursor {
+        tells_by_cursor(rt, alloc, dbs, given, &answers, wanted)
+    } else {
+        tells_at_once(rt, alloc, dbs, given, &answers, wanted)
+    }
+}
+
+fn are_right<R: Abort>(rt: &R, alloc: Global, scene: Scene, cases: &[u8], by_cursor: bool) -> bool {
+    let dbs = databases(rt, alloc, scene);
+    let mut right = true;
+    for case in cases.split(|byte| *byte == b'\n') {
+        let told = is_right(rt, alloc, &dbs, case, by_cursor);
+        right = right && told;
+    }
+    right
+}
+
+// The cases of each scene: what the password databases gave, behind `;` the answers with bars between them, and behind
+// `>` what the chain tells then. No user database gives a stored password.
+const CASES: [(Scene, &[u8]); 5] = [
     (
         Scene::Plain,
-        "",
-        "Fuid=1000 home=/home/alice",
-        "found uid=1000 home=/home/alice",
+        b";>ask 1\n;F uid=1000 home=/home/alice>found uid=1000 home=/home/alice\n;U>ask 2\n;U|U>not found\n;I|U>temp\n\
+;F{PLAIN}pw|U>temp\n;I|F uid=1>found uid=1",
     ),
-    (Scene::Plain, "", "U", "ask 2"),
-    (Scene::Plain, "", "U|U", "not found"),
-    (Scene::Plain, "", "I|U", "temp"),
-    (Scene::Plain, "", "S|U", "temp"),
-    (Scene::Plain, "", "I|Fuid=1", "found uid=1"),
     (
         Scene::Prefetch,
-        "userdb_quota=1G nodelay",
-        "",
-        "found quota=1G",
+        b"userdb_quota=1G nodelay;>found quota=1G\nnodelay userdb_=x;>ask 2",
     ),
-    (Scene::Prefetch, "nodelay userdb_=x", "", "ask 2"),
     (
         Scene::Continue,
-        "",
-        "Fuid=1000 home=/x",
-        "found gid=100 uid=1000 home=/home/alice",
+        b";F uid=1000 home=/x>found gid=100 uid=1000 home=/home/alice\n;U>ask 2\n;U|U>not found",
     ),
-    (Scene::Continue, "", "U", "ask 2"),
-    (Scene::Continue, "", "U|U", "not found"),
-    (Scene::ReturnFail, "", "I", "temp"),
-    (Scene::ReturnFail, "", "U", "ask 2"),
-    (Scene::SkipsNotFound, "", "U", "not found"),
-    (Scene::SkipsNotFound, "", "", "ask 1"),
+    (Scene::ReturnFail, b";I>temp\n;U>ask 2"),
+    (Scene::SkipsNotFound, b";U>not found\n;>ask 1"),
 ];
 
 #[test]
-fn all_answers_at_once_lead_to_what_is_found(rt: HostRuntime) -> Result<(), Fail> {
-    for (scene, given, reported, want) in CASES {
-        let chain = told_at_once(rt.alloc(), scene, given.as_bytes(), reported.as_bytes())?;
-        assert_eq!(rt; chain.as_slice(), want.as_bytes());
+fn all_answers_at_once_lead_to_what_is_found(rt: HostRuntime) {
+    for (scene, cases) in CASES {
+        assert!(rt; are_right(&rt, rt.alloc(), scene, cases, false));
     }
-    Ok(())
 }
 
 #[test]
-fn one_answer_after_the_other_leads_there_too(rt: HostRuntime) -> Result<(), Fail> {
-    for (scene, given, reported, want) in CASES {
-        let chain = told_by_cursor(rt.alloc(), scene, given.as_bytes(), reported.as_bytes())?;
-        assert_eq!(rt; chain.as_slice(), want.as_bytes());
+fn one_answer_after_the_other_leads_there_too(rt: HostRuntime) {
+    for (scene, cases) in CASES {
+        assert!(rt; are_right(&rt, rt.alloc(), scene, cases, true));
     }
-    Ok(())
 }
