@@ -58,52 +58,58 @@ user_told (Awaits text) user fields e = absurd (none-some _ e)
 user_told (Asks q) user fields e = absurd (none-some _ e)
 user_told (Decided d) user fields e = ap (λ x. tells_user (Decided x)) (same_Some d _ e)
 
-failure_no : (v : Verdict) (reason : Option Bytes) → tells_ok (failure v reason) ≡ false
-unfolding tells_ok
-failure_no v None = refl
-failure_no v (Some reason) = refl
+-- neither of the two
+abbrev Untold : Stage → Type 0
+Untold s = (tells_ok s ≡ false) × (tells_user s ≡ false)
+
+failure_untold : (v : Verdict) (reason : Option Bytes) → Untold (failure v reason)
+unfolding tells_ok tells_user
+failure_untold v None = (refl, refl)
+failure_untold v (Some reason) = (refl, refl)
+
+-- an attempt has neither before a database is asked
+OpensUntold : Opening → Type 0
+OpensUntold (Immediate s) = Untold s
+OpensUntold (LogsIn m login) = Unit {0}
+
+named_untold : (m : Mech) (a : Attempt) (password : Option Bytes) (n : Option (Bytes × Option Bytes)) → OpensUntold (opening_named m a password n)
+unfolding OpensUntold tells_ok tells_user
+named_untold m a password None = (refl, refl)
+named_untold m a password (Some n) = tt
+
+said_untold : (m : Mech) (settings : Settings) (a : Attempt) (s : Said) → OpensUntold (opening_said m settings a s)
+unfolding OpensUntold tells_ok tells_user
+said_untold m settings a (Challenge text) = (refl, refl)
+said_untold m settings a (Need name authzid password) = named_untold m a password (names settings name authzid)
+said_untold m settings a (Proven right last) = (refl, refl)
+said_untold m settings a Bad = (refl, refl)
+
+by_untold : (o : Option Mech) (settings : Settings) (a : Attempt) → OpensUntold (opening_by o settings a)
+unfolding OpensUntold tells_ok tells_user
+by_untold None settings a = (refl, refl)
+by_untold (Some m) settings a = said_untold m settings a (mechanism_says m settings a a.messages None)
+
+-- ---- an OK
 
 kind_okay : (k : VerdictKind) (m : Mech) (settings : Settings) (a : Attempt) (v : Verdict) → tells_ok (after_verdict k m settings a v) ≡ true → k ≡ IsOkay
 kind_okay IsOkay m settings a v e = refl
-kind_okay IsFail m settings a v e = absurd (true≢false (sym e ∙ failure_no v None))
-kind_okay IsTemp m settings a v e = absurd (true≢false (sym e ∙ failure_no v None))
-kind_okay IsDisabled m settings a v e = absurd (true≢false (sym e ∙ failure_no v None))
+kind_okay IsFail m settings a v e = absurd (true≢false (sym e ∙ (failure_untold v None).0))
+kind_okay IsTemp m settings a v e = absurd (true≢false (sym e ∙ (failure_untold v None).0))
+kind_okay IsDisabled m settings a v e = absurd (true≢false (sym e ∙ (failure_untold v None).0))
 
 chain_ok : (m : Mech) (settings : Settings) (a : Attempt) (login : Login) (c : Chain) → AllStrict settings.passdb → login_chain settings.passdb login a.answers ≡ c → tells_ok (after_chain m settings a c) ≡ true → HasSuccess settings.passdb login a.answers
 unfolding tells_ok
 chain_ok m settings a login (Ask db kind user checked) s e t = absurd (true≢false (sym t))
 chain_ok m settings a login (Done v) s e t = success_has_its_answer settings.passdb login a.answers v s e (kind_okay v.kind m settings a v t)
 
--- an attempt has no OK before a database is asked
-NoOk : Opening → Type 0
-NoOk (Immediate s) = tells_ok s ≡ false
-NoOk (LogsIn m login) = Unit {0}
-
-named_no : (m : Mech) (a : Attempt) (password : Option Bytes) (n : Option (Bytes × Option Bytes)) → NoOk (opening_named m a password n)
-unfolding NoOk tells_ok
-named_no m a password None = refl
-named_no m a password (Some n) = tt
-
-said_no : (m : Mech) (settings : Settings) (a : Attempt) (s : Said) → NoOk (opening_said m settings a s)
-unfolding NoOk tells_ok
-said_no m settings a (Challenge text) = refl
-said_no m settings a (Need name authzid password) = named_no m a password (names settings name authzid)
-said_no m settings a (Proven right last) = refl
-said_no m settings a Bad = refl
-
-by_no : (o : Option Mech) (settings : Settings) (a : Attempt) → NoOk (opening_by o settings a)
-unfolding NoOk tells_ok
-by_no None settings a = refl
-by_no (Some m) settings a = said_no m settings a (mechanism_says m settings a a.messages None)
-
-from_ok : (settings : Settings) (a : Attempt) (o : Opening) → NoOk o → AllStrict settings.passdb → tells_ok (stage_from settings a o) ≡ true → (login : Login) × (login_in o ≡ Some login) × HasSuccess settings.passdb login a.answers
-unfolding NoOk
-from_ok settings a (Immediate s) n d t = absurd (true≢false (sym t ∙ n))
+from_ok : (settings : Settings) (a : Attempt) (o : Opening) → OpensUntold o → AllStrict settings.passdb → tells_ok (stage_from settings a o) ≡ true → (login : Login) × (login_in o ≡ Some login) × HasSuccess settings.passdb login a.answers
+unfolding OpensUntold
+from_ok settings a (Immediate s) n d t = absurd (true≢false (sym t ∙ n.0))
 from_ok settings a (LogsIn m login) n d t = (login, refl, chain_ok m settings a login (login_chain settings.passdb login a.answers) d refl t)
 
 attempt_ok : (settings : Settings) (a : Attempt) → AllStrict settings.passdb → tells_ok (attempt_stage settings a) ≡ true → (login : Login) × (login_in (opening settings a) ≡ Some login) × HasSuccess settings.passdb login a.answers
 unfolding attempt_stage opening
-attempt_ok settings a d t = from_ok settings a (opening settings a) (by_no a.mech settings a) d t
+attempt_ok settings a d t = from_ok settings a (opening settings a) (by_untold a.mech settings a) d t
 
 lookup_no : (subject : Lookup) (c : UserChain) → tells_ok (lookup_stage subject c) ≡ false
 unfolding tells_ok
@@ -124,32 +130,6 @@ ok_has_its_answer settings r user fields last d e = body_ok settings r r.body d 
 
 -- ---- a USER
 
-NoUser : Opening → Type 0
-NoUser (Immediate s) = tells_user s ≡ false
-NoUser (LogsIn m login) = Unit {0}
-
-u_named : (m : Mech) (a : Attempt) (password : Option Bytes) (n : Option (Bytes × Option Bytes)) → NoUser (opening_named m a password n)
-unfolding NoUser tells_user
-u_named m a password None = refl
-u_named m a password (Some n) = tt
-
-u_said : (m : Mech) (settings : Settings) (a : Attempt) (s : Said) → NoUser (opening_said m settings a s)
-unfolding NoUser tells_user
-u_said m settings a (Challenge text) = refl
-u_said m settings a (Need name authzid password) = u_named m a password (names settings name authzid)
-u_said m settings a (Proven right last) = refl
-u_said m settings a Bad = refl
-
-u_by : (o : Option Mech) (settings : Settings) (a : Attempt) → NoUser (opening_by o settings a)
-unfolding NoUser tells_user
-u_by None settings a = refl
-u_by (Some m) settings a = u_said m settings a (mechanism_says m settings a a.messages None)
-
-u_failure : (v : Verdict) (reason : Option Bytes) → tells_user (failure v reason) ≡ false
-unfolding tells_user
-u_failure v None = refl
-u_failure v (Some reason) = refl
-
 u_proof : (v : Verdict) (s : Said) → tells_user (after_proof v s) ≡ false
 unfolding tells_user
 u_proof v (Challenge text) = refl
@@ -159,7 +139,7 @@ u_proof v (Proven false last) = refl
 u_proof v Bad = refl
 
 u_credentials : (m : Mech) (settings : Settings) (a : Attempt) (v : Verdict) (o : Option StoredPassword) → tells_user (with_credentials m settings a v o) ≡ false
-u_credentials m settings a v None = u_failure (record v { kind = IsFail }) None
+u_credentials m settings a v None = (failure_untold (record v { kind = IsFail }) None).1
 u_credentials m settings a v (Some stored) = u_proof v (mechanism_says m settings a a.messages (Some stored))
 
 u_verdict : (k : VerdictKind) (m : Mech) (settings : Settings) (a : Attempt) (v : Verdict) → tells_user (after_verdict k m settings a v) ≡ false
@@ -168,23 +148,23 @@ u_verdict IsOkay Plain settings a v = refl
 u_verdict IsOkay LoginMech settings a v = refl
 u_verdict IsOkay CramMd5 settings a v = u_credentials CramMd5 settings a v v.credentials
 u_verdict IsOkay ScramSha256 settings a v = u_credentials ScramSha256 settings a v v.credentials
-u_verdict IsFail m settings a v = u_failure v None
-u_verdict IsTemp m settings a v = u_failure v None
-u_verdict IsDisabled m settings a v = u_failure v None
+u_verdict IsFail m settings a v = (failure_untold v None).1
+u_verdict IsTemp m settings a v = (failure_untold v None).1
+u_verdict IsDisabled m settings a v = (failure_untold v None).1
 
 u_chain : (m : Mech) (settings : Settings) (a : Attempt) (c : Chain) → tells_user (after_chain m settings a c) ≡ false
 unfolding tells_user
 u_chain m settings a (Ask db kind user checked) = refl
 u_chain m settings a (Done v) = u_verdict v.kind m settings a v
 
-u_from : (settings : Settings) (a : Attempt) (o : Opening) → NoUser o → tells_user (stage_from settings a o) ≡ false
-unfolding NoUser
-u_from settings a (Immediate s) n = n
+u_from : (settings : Settings) (a : Attempt) (o : Opening) → OpensUntold o → tells_user (stage_from settings a o) ≡ false
+unfolding OpensUntold
+u_from settings a (Immediate s) n = n.1
 u_from settings a (LogsIn m login) n = u_chain m settings a (login_chain settings.passdb login a.answers)
 
 u_attempt : (settings : Settings) (a : Attempt) → tells_user (attempt_stage settings a) ≡ false
 unfolding attempt_stage opening
-u_attempt settings a = u_from settings a (opening settings a) (u_by a.mech settings a)
+u_attempt settings a = u_from settings a (opening settings a) (by_untold a.mech settings a)
 
 body_user : (settings : Settings) (r : Request) (b : Body) → tells_user (body_stage settings r b) ≡ true → (grant : Grant) × (b ≡ LooksUp (Some grant))
 unfolding tells_user
