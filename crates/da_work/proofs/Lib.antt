@@ -1,1 +1,2 @@
+pub mod CommandRunLemmas
 mod WorkLemmas

@@ -15,23 +15,8 @@ use Rattle.da_command.specs.SettingsFile.{HoldsSettings, ReadsSettings}
 use Rattle.da_command.specs.Statuses.{IsDone}
 use Rattle.da_command.specs.Words.{worker_path}
 use Rattle.da_command.proofs.SettingsFileLemmas.{no_fault}
+use Rattle.da_work.proofs.CommandRunLemmas.{unread}
 use Rattle.da_work.specs.Work.{pass_paths, user_paths, status_of_end, RanOver, WorksOver, WorksWith, Works, IsGoodWork, CompletesWork, RunsWorker}
-
--- no settings were read, and nothing of the input was read and nothing written
-works_unread : (path : Bytes) (before after : Outside) (status : Status)
-    → ReadsSettings path before.files after.files (Err status) → IsUntouched before after → Works (Some path) before after status
-works_unread path before after NoSettings read same = (read, same)
-works_unread path before after (BadSettings fault) read same = (read, same)
-works_unread path before after NoMemory read same = inl (read, same)
-works_unread path before after Done read same = absurd read
-works_unread path before after Usage read same = absurd read
-works_unread path before after (BadScript line) read same = absurd read
-works_unread path before after LongScript read same = absurd read
-works_unread path before after BadInput read same = absurd read
-works_unread path before after NoListen read same = absurd read
-works_unread path before after ReadFault read same = absurd read
-works_unread path before after WriteFault read same = absurd read
-works_unread path before after Full read same = absurd read
 
 -- by the worker's end
 works_by_end : (path : Bytes) (before after : Outside) (end : WorkerStatus) → WorksWith path before after (status_of_end end)
@@ -99,7 +84,7 @@ module _ (words : List Bytes) (before after : Outside) where
 
   pub runs_unread : (path : Bytes) (status : Status) → Some path ≡ worker_path words → ReadsSettings path before.files after.files (Err status)
       → IsUntouched before after → RunsWorker words before after status
-  runs_unread path status same read kept = runs_at path status same (works_unread path before after status read kept)
+  runs_unread path status same read kept = runs_at path status same (unread WorksWith path before after status read kept)
 
   pub runs_read : (path : Bytes) (settings : Settings) (files : FilesState) (status : Status) → Some path ≡ worker_path words → HoldsSettings path before.files files settings
       → WorksOver settings (record before { files = files }) after status → RunsWorker words before after status

@@ -1,1 +1,2 @@
+pub mod CommandRuns
 pub mod Work

@@ -1,9 +1,8 @@
 -- What `run_worker` does, by its words, its file and its input.
 use Rattle.std.specs.Prelude.{◌≡◌, ⊤, ◌⊎◌, List, [], map, Option, Some, None, Ok}
 use Rattle.da_base.specs.Words.{Bytes}
-use Rattle.da_outside.specs.FileReads.{ReadsNoOther}
 use Rattle.da_outside.specs.Files.{File, FilesState, bytes_at}
-use Rattle.da_outside.specs.Outside.{Outside, IsUntouched}
+use Rattle.da_outside.specs.Outside.{Outside}
 use Rattle.da_passdb.specs.declared.database.Passdb.{Passdb}
 use Rattle.da_passdb.specs.declared.database.Driver.{Driver}
 use Rattle.da_passdb.specs.declared.database.Driver.TheVariants.{PasswdFile, Worker, Checkpassword}
@@ -16,10 +15,11 @@ use Rattle.da_worker.specs.declared.worker.WorkerStatus.{WorkerStatus}
 use Rattle.da_worker.specs.declared.worker.WorkerStatus.TheVariants.{Done as WorkDone, BadInput as BadLine, LongInput, ReadFault as WorkReadFault, WriteFault as WorkWriteFault, NoMemory as WorkNoMemory}
 use Rattle.da_worker.specs.Run.{Ran, IsGood}
 use Rattle.da_command.specs.declared.status.Status.{Status}
-use Rattle.da_command.specs.declared.status.Status.TheVariants.{Done, Usage, LongScript, BadInput, NoSettings, NoMemory, ReadFault, WriteFault, BadSettings}
-use Rattle.da_command.specs.SettingsFile.{HoldsFault, HoldsSettings, PathFails}
+use Rattle.da_command.specs.declared.status.Status.TheVariants.{Done, LongScript, BadInput, NoMemory, ReadFault, WriteFault}
+use Rattle.da_command.specs.SettingsFile.{HoldsSettings, PathFails}
 use Rattle.da_command.specs.Statuses.{IsDone}
 use Rattle.da_command.specs.Words.{worker_path}
+use Rattle.da_work.specs.CommandRuns.{RunsAtPath}
 
 -- ---- the databases' files
 
@@ -76,21 +76,9 @@ pub record WorksWith (path : Bytes) (before after : Outside) (status : Status) :
   pub holds : HoldsSettings path before.files files settings
   pub ran : RanOver settings (record before { files = files }) after status
 
--- By the path and the status. Nothing else comes.
---   Usage: exactly where the words are off their form; nothing is read or written.
---   NoSettings: the read of PATH failed, before any input or output.
---   BadSettings: the file's text has this fault, before any input or output.
---   NoMemory: before any input or output, or as the worker's run says.
---   The rest: as the worker's run says.
--- Before the worker's run no file is read but the one at PATH, and that at most once.
+-- the whole of it, by the path; none where the words are off their form
 abbrev pub Works : Option Bytes → Outside → Outside → Status → Type 0
-Works None before after Usage = after ≡ before
-Works None before after _ = ⊥
-Works (Some path) before after Usage = ⊥
-Works (Some path) before after NoSettings = PathFails path before.files after.files × IsUntouched before after
-Works (Some path) before after (BadSettings fault) = HoldsFault path before.files after.files fault × IsUntouched before after
-Works (Some path) before after NoMemory = (ReadsNoOther path before.files after.files × IsUntouched before after) ⊎ WorksWith path before after NoMemory
-Works (Some path) before after status = WorksWith path before after status
+Works path before after status = RunsAtPath WorksWith path before after status
 
 -- ---- completeness
 
