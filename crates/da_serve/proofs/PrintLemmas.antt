@@ -74,12 +74,12 @@ module _ (before : SinkState) (h : List Entry) (held : Bytes) (now : SinkState) 
       record {
         front = run.front ++ writes.front;
         begins = begins_further (run.front ++ writes.front) (script (e ∷ h)) all
-          (record {
-            rest = writes.begins.rest;
-            is_whole = more_is e text same ∙ ap (λ t. run.front ++ t) writes.begins.is_whole
-              ∙ sym (append_assoc run.front writes.front writes.begins.rest);
-          })
-          begins;
+            (record {
+              rest = writes.begins.rest;
+              is_whole = more_is e text same ∙ ap (λ t. run.front ++ t) writes.begins.is_whole
+                  ∙ sym (append_assoc run.front writes.front writes.begins.rest);
+            })
+            begins;
         writes = Appends-trans before.contents now.contents new.contents run.front writes.front run.writes writes.writes;
         rose = let one = run.later in let two = writes.rose in omega arith;
       }
@@ -97,7 +97,7 @@ module _ (before : SinkState) (h : List Entry) (held : Bytes) (now : SinkState) 
   printing_ends new Whole writes =
       record {
         writes = subst (λ t. Appends before.contents new.contents t) (sym run.is_script)
-          (Appends-trans before.contents now.contents new.contents run.front held run.writes writes.writes);
+            (Appends-trans before.contents now.contents new.contents run.front held run.writes writes.writes);
         later = let one = run.later in let two = writes.later in omega arith;
       }
   printing_ends new Fault writes =

@@ -177,7 +177,8 @@ where
             continue;
         };
         match admit(
-            scope, rt, alloc, port, &mut seat, &mut pairs, kind, source, sink, clock, &mut rand, pause,
+            scope, rt, alloc, port, &mut seat, &mut pairs, kind, source, sink, clock, &mut rand,
+            pause,
         ) {
             Admitted::Served => count = count.saturating_add(1),
             Admitted::Dropped => {}

@@ -60,7 +60,15 @@ fn work<R: Wait, P: Spawner + Drop, U: Runner + Drop, C: Clock, Z: Pause>(
         mut runner,
     } = tools;
     let _ = serve_worker(
-        rt, alloc, port, seat, settings, &mut spawner, &mut runner, clock, pause,
+        rt,
+        alloc,
+        port,
+        seat,
+        settings,
+        &mut spawner,
+        &mut runner,
+        clock,
+        pause,
     );
 }
 

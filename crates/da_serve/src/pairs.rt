@@ -61,7 +61,13 @@ impl<S: Source + Drop, K: Sink + Drop> Desks<S, K> {
     fn give<R: Wait>(&self, rt: &R, conn: u32, source: S, sink: K) {
         self.busy.store(2, Ordering::SeqCst);
         self.writes.put(rt, Half { conn, stream: sink });
-        self.reads.put(rt, Half { conn, stream: source });
+        self.reads.put(
+            rt,
+            Half {
+                conn,
+                stream: source,
+            },
+        );
     }
 
     // One of the two threads is done with its half.
@@ -113,9 +119,7 @@ fn read_half<R: Wait, S: Source + Drop, C: Clock, G: Rand, Z: Pause>(
     ensures { IsOf port.now seat.new × IsFree seat.new }
 {
     let Half { conn, mut stream } = half;
-    let _ = read_conn(
-        rt, alloc, port, seat, conn, &mut stream, clock, rand, pause,
-    );
+    let _ = read_conn(rt, alloc, port, seat, conn, &mut stream, clock, rand, pause);
 }
 
 // What a writer's thread does. Where the sink is let go the connection is shut, which ends its reader.

@@ -31,12 +31,7 @@ pub(crate) fn take_in(port: &Port, seat: &mut Seat, other: Seat)
 }
 
 /// Joins threads, in the order of their start.
-pub(crate) fn join_all<R: Threads>(
-    rt: &R,
-    port: &Port,
-    seat: &mut Seat,
-    sitters: Vec<Sitter<'_>>,
-)
+pub(crate) fn join_all<R: Threads>(rt: &R, port: &Port, seat: &mut Seat, sitters: Vec<Sitter<'_>>)
     requires own { IsOf port.now seat.old × IsFree seat.old }
     requires sitters { All (λ s. s.promise.0.now ≡ port.now) sitters.items }
     ensures own { IsOf port.now seat.new × IsFree seat.new }

@@ -76,7 +76,16 @@ where
             let mine = other;
             let rand = master_rand;
             accept_conns(
-                rt, alloc, port, mine, ConnKind::Master, masters, master_limit, clock, rand, pause,
+                rt,
+                alloc,
+                port,
+                mine,
+                ConnKind::Master,
+                masters,
+                master_limit,
+                clock,
+                rand,
+                pause,
             )
         },
         || -> Seat
@@ -86,7 +95,16 @@ where
             let mine = seat;
             let rand = client_rand;
             accept_conns(
-                rt, alloc, port, mine, ConnKind::Client, clients, client_limit, clock, rand, pause,
+                rt,
+                alloc,
+                port,
+                mine,
+                ConnKind::Client,
+                clients,
+                client_limit,
+                clock,
+                rand,
+                pause,
             )
         },
     )
@@ -183,7 +201,16 @@ where
 {
     let mut workers = Vec::new(alloc);
     start_workers(
-        scope, rt, alloc, port, &mut seat, &mut workers, settings, crew, clock, pause,
+        scope,
+        rt,
+        alloc,
+        port,
+        &mut seat,
+        &mut workers,
+        settings,
+        crew,
+        clock,
+        pause,
     );
     let mut seat = serve_sockets(
         rt, alloc, port, seat, goal, clients, masters, clock, rand, pause,
@@ -234,7 +261,8 @@ where
         {
             let mine = seat;
             serve_in(
-                scope, rt, alloc, port, mine, settings, goal, clients, masters, crew, clock, rand, pause,
+                scope, rt, alloc, port, mine, settings, goal, clients, masters, crew, clock, rand,
+                pause,
             )
         },
     )

@@ -62,7 +62,15 @@ fn session<R: Wait>(
         .connect(rt, seat, client.moment, ConnKind::Client, random)
         .ok()?;
     let read = read_conn(
-        rt, alloc, port, seat, conn, &mut source, &clock, &mut rand, &NoPause,
+        rt,
+        alloc,
+        port,
+        seat,
+        conn,
+        &mut source,
+        &clock,
+        &mut rand,
+        &NoPause,
     );
     let write = write_conn(rt, port, seat, conn, sink, &NoPause);
     Some((read, write))

@@ -1,9 +1,7 @@
 // The whole command over one client in memory, and no worker that answers.
 
 use da_command::Status;
-use da_outside::{
-    MemFiles, MemListen, MemSink, MemSource, NoPause, SetClock, SetRand, SoundCrew,
-};
+use da_outside::{MemFiles, MemListen, MemSink, MemSource, NoPause, SetClock, SetRand, SoundCrew};
 use da_serve::run_serve;
 use std::alloc::{AllocError, Global};
 use std::sync::Wait;

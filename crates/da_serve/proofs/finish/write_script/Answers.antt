@@ -27,13 +27,13 @@ loop-entry-preserved g c =
     let further = front_further c.args.entries.now c.loop-entry.entry-index c.entry-item.result (omega (arith, c.loop-entry-test.true, c.loop-entry.auto.entry-index-end)) (cc) in
     subst (λ h. Printing h c.write_ahead.new.text.items (g.K.Sink.state c.args.output.now) (g.K.Sink.state c.write_ahead.new.output)) (sym further)
     (printing_more (g.K.Sink.state c.args.output.now) (reverse (take c.loop-entry.entry-index c.args.entries.now)) c.loop-entry.text.items
-      (g.K.Sink.state c.loop-entry.output) c.loop-entry.invariant c.entry-item.result c.push_entry.new.text.items c.write_ahead.new.text.items
-      c.in-Ok-write_ahead.ensures.0 (g.K.Sink.state c.write_ahead.new.output) c.in-Ok.ensures c.in-Ok-write_ahead.ensures.1 c.in-Ok-write_ahead.ensures.2)
+    (g.K.Sink.state c.loop-entry.output) c.loop-entry.invariant c.entry-item.result c.push_entry.new.text.items c.write_ahead.new.text.items
+    c.in-Ok-write_ahead.ensures.0 (g.K.Sink.state c.write_ahead.new.output) c.in-Ok.ensures c.in-Ok-write_ahead.ensures.1 c.in-Ok-write_ahead.ensures.2)
 
 pub returns : goal.returns
 returns g c =
     subst (λ (es : List Entry). WritesScript (script (reverse es)) (g.K.Sink.state c.args.output.now) (g.K.Sink.state c.write_rest.new.output) c.write_rest.result)
     (take_all c.loop-entry.entry-index c.args.entries.now (omega (arith, c.loop-entry-test.false, c.loop-entry.auto.entry-index-end)))
     (printing_ends (g.K.Sink.state c.args.output.now) (reverse (take c.loop-entry.entry-index c.args.entries.now)) c.loop-entry.text.items
-      (g.K.Sink.state c.loop-entry.output) c.loop-entry.invariant (g.K.Sink.state c.write_rest.new.output) c.write_rest.result
-      (subst (λ (t : Bytes). WritesScript t (g.K.Sink.state c.loop-entry.output) (g.K.Sink.state c.write_rest.new.output) c.write_rest.result) c.deref.ensures.value c.write_rest.ensures))
+    (g.K.Sink.state c.loop-entry.output) c.loop-entry.invariant (g.K.Sink.state c.write_rest.new.output) c.write_rest.result
+    (subst (λ (t : Bytes). WritesScript t (g.K.Sink.state c.loop-entry.output) (g.K.Sink.state c.write_rest.new.output) c.write_rest.result) c.deref.ensures.value c.write_rest.ensures))
