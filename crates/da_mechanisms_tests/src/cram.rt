@@ -1,7 +1,9 @@
+use crate::cases::{stored_of, texts};
 use da_cram::*;
 use da_fields::{Said, Text};
 use da_schemes::{Scheme, Stored};
-use std::alloc::{AllocError, Global};
+use std::alloc::Global;
+use std::process::Abort;
 use std::test::Fail;
 
 // The example of RFC 2195, section 2.
@@ -40,61 +42,45 @@ fn letter(said: &Said) -> u8 {
     }
 }
 
-fn texts(alloc: Global, case: &[u8]) -> Result<Vec<Text>, AllocError> {
-    let mut texts = Vec::new(alloc);
-    for piece in case.split(|byte| *byte == b';') {
-        texts.push(Text::new(Vec::from_slice(alloc, piece)?))?;
+fn letter_to<R: Abort>(rt: &R, alloc: Global, messages: &[Text], stored: Option<&Stored>) -> u8 {
+    letter(&says(alloc, messages, CHALLENGE, stored).expect(rt, "memory"))
+}
+
+fn is_said<R: Abort>(rt: &R, alloc: Global, case: &[u8], stored: Option<&Stored>) -> bool {
+    match texts(rt, alloc, case).split_first() {
+        Some((first, messages)) => {
+            first.bytes() == [letter_to(rt, alloc, messages, stored)].as_slice()
+        }
+        None => false,
     }
-    Ok(texts)
 }
 
 #[test]
-fn a_response_has_a_name_and_small_digits(rt: HostRuntime) -> Result<(), Fail> {
-    let alloc = rt.alloc();
+fn a_response_has_a_name_and_small_digits(rt: HostRuntime) {
     for case in UNKNOWN.split(|byte| *byte == b'\n') {
-        let texts = texts(alloc, case)?;
-        if let Some((first, messages)) = texts.split_first() {
-            let said = says(alloc, messages, CHALLENGE, None)?;
-            assert!(rt; first.bytes() == [letter(&said)].as_slice());
-        }
+        assert!(rt; is_said(&rt, rt.alloc(), case, None));
     }
-    Ok(())
 }
 
 #[test]
-fn a_digest_is_right_or_wrong(rt: HostRuntime) -> Result<(), Fail> {
-    let alloc = rt.alloc();
-    let Ok(stored) = Stored::read(alloc, Scheme::Plain, STORED) else {
-        panic!(rt; "no stored password");
-    };
+fn a_digest_is_right_or_wrong(rt: HostRuntime) {
+    let stored = stored_of(&rt, rt.alloc(), Scheme::Plain, STORED);
     for case in KNOWN.split(|byte| *byte == b'\n') {
-        let texts = texts(alloc, case)?;
-        if let Some((first, messages)) = texts.split_first() {
-            let said = says(alloc, messages, CHALLENGE, Some(&stored))?;
-            assert!(rt; first.bytes() == [letter(&said)].as_slice());
-        }
+        assert!(rt; is_said(&rt, rt.alloc(), case, Some(&stored)));
     }
-    Ok(())
 }
 
 #[test]
-fn a_password_that_is_kept_as_a_digest_is_of_no_use(rt: HostRuntime) -> Result<(), Fail> {
-    let alloc = rt.alloc();
+fn a_password_that_is_kept_as_a_digest_is_of_no_use(rt: HostRuntime) {
     let text = b"{SHA}qZk+NkcGgWq6PiVxeFDCbJzQ2J0=";
-    let Ok(stored) = Stored::read(alloc, Scheme::Plain, text) else {
-        panic!(rt; "no stored password");
-    };
-    let said = says(alloc, &[], CHALLENGE, Some(&stored))?;
-    assert_eq!(rt; letter(&said), b'B');
-    Ok(())
+    let stored = stored_of(&rt, rt.alloc(), Scheme::Plain, text);
+    assert!(rt; letter_to(&rt, rt.alloc(), &[], Some(&stored)) == b'B');
 }
 
 #[test]
 fn a_challenge_has_the_digits_the_moment_and_the_host(rt: HostRuntime) -> Result<(), Fail> {
     let text = challenge(rt.alloc(), &[0; 16], 1003, b"localhost")?;
-    assert_eq!(rt;
-        text.as_slice(),
-        b"<00000000000000000000000000000000.1003@localhost>".as_slice()
-    );
+    let wanted = b"<00000000000000000000000000000000.1003@localhost>".as_slice();
+    assert!(rt; text.as_slice() == wanted);
     Ok(())
 }

@@ -1,7 +1,8 @@
+use crate::cases::texts;
 use da_fields::{Said, Text};
 use da_plain::*;
-use std::alloc::{AllocError, Global};
-use std::test::Fail;
+use std::alloc::Global;
+use std::process::Abort;
 
 // What comes of some messages, by its first letter, and then the messages, each with a `;` before it.
 const PLAIN: &[u8] =
@@ -20,38 +21,44 @@ fn letter(said: &Said) -> u8 {
     }
 }
 
-fn texts(alloc: Global, case: &[u8]) -> Result<Vec<Text>, AllocError> {
-    let mut texts = Vec::new(alloc);
-    for piece in case.split(|byte| *byte == b';') {
-        texts.push(Text::new(Vec::from_slice(alloc, piece)?))?;
+fn plain<R: Abort>(rt: &R, alloc: Global, messages: &[Text]) -> Said {
+    plain_says(alloc, messages).expect(rt, "memory")
+}
+
+fn login<R: Abort>(rt: &R, alloc: Global, messages: &[Text]) -> Said {
+    login_says(alloc, messages).expect(rt, "memory")
+}
+
+fn is_plain<R: Abort>(rt: &R, alloc: Global, case: &[u8]) -> bool {
+    match texts(rt, alloc, case).split_first() {
+        Some((first, messages)) => {
+            first.bytes() == [letter(&plain(rt, alloc, messages))].as_slice()
+        }
+        None => false,
     }
-    Ok(texts)
+}
+
+fn is_login<R: Abort>(rt: &R, alloc: Global, case: &[u8]) -> bool {
+    match texts(rt, alloc, case).split_first() {
+        Some((first, messages)) => {
+            first.bytes() == [letter(&login(rt, alloc, messages))].as_slice()
+        }
+        None => false,
+    }
 }
 
 #[test]
-fn plain_takes_one_message_of_three_parts(rt: HostRuntime) -> Result<(), Fail> {
-    let alloc = rt.alloc();
+fn plain_takes_one_message_of_three_parts(rt: HostRuntime) {
     for case in PLAIN.split(|byte| *byte == b'\n') {
-        let texts = texts(alloc, case)?;
-        if let Some((first, messages)) = texts.split_first() {
-            let said = plain_says(alloc, messages)?;
-            assert!(rt; first.bytes() == [letter(&said)].as_slice());
-        }
+        assert!(rt; is_plain(&rt, rt.alloc(), case));
     }
-    Ok(())
 }
 
 #[test]
-fn login_takes_a_name_and_a_password(rt: HostRuntime) -> Result<(), Fail> {
-    let alloc = rt.alloc();
+fn login_takes_a_name_and_a_password(rt: HostRuntime) {
     for case in LOGIN.split(|byte| *byte == b'\n') {
-        let texts = texts(alloc, case)?;
-        if let Some((first, messages)) = texts.split_first() {
-            let said = login_says(alloc, messages)?;
-            assert!(rt; first.bytes() == [letter(&said)].as_slice());
-        }
+        assert!(rt; is_login(&rt, rt.alloc(), case));
     }
-    Ok(())
 }
 
 // Whether these are needed.
@@ -74,21 +81,19 @@ fn challenges(said: &Said, prompt: &[u8]) -> bool {
 }
 
 #[test]
-fn the_parts_are_told_in_their_places(rt: HostRuntime) -> Result<(), Fail> {
+fn the_parts_are_told_in_their_places(rt: HostRuntime) {
     let alloc = rt.alloc();
-    let plain = texts(alloc, b"bob\0alice\0pw")?;
-    assert!(rt; needs(&plain_says(alloc, &plain)?, b"alice", b"bob", b"pw"));
-    let login = texts(alloc, b"alice;pw")?;
-    assert!(rt; needs(&login_says(alloc, &login)?, b"alice", b"", b"pw"));
-    Ok(())
+    let by_plain = plain(&rt, alloc, &texts(&rt, alloc, b"bob\0alice\0pw"));
+    assert!(rt; needs(&by_plain, b"alice", b"bob", b"pw"));
+    let by_login = login(&rt, alloc, &texts(&rt, alloc, b"alice;pw"));
+    assert!(rt; needs(&by_login, b"alice", b"", b"pw"));
 }
 
 #[test]
-fn login_prompts_for_a_name_and_then_for_a_password(rt: HostRuntime) -> Result<(), Fail> {
+fn login_prompts_for_a_name_and_then_for_a_password(rt: HostRuntime) {
     let alloc = rt.alloc();
-    assert!(rt; challenges(&plain_says(alloc, &[])?, b""));
-    assert!(rt; challenges(&login_says(alloc, &[])?, b"Username:"));
-    let name = texts(alloc, b"alice")?;
-    assert!(rt; challenges(&login_says(alloc, &name)?, b"Password:"));
-    Ok(())
+    assert!(rt; challenges(&plain(&rt, alloc, &[]), b""));
+    assert!(rt; challenges(&login(&rt, alloc, &[]), b"Username:"));
+    let name = texts(&rt, alloc, b"alice");
+    assert!(rt; challenges(&login(&rt, alloc, &name), b"Password:"));
 }

@@ -1,8 +1,9 @@
+use crate::cases::{stored_of, text};
 use da_fields::{Said, Text};
 use da_schemes::{Scheme, Stored};
 use da_scram::*;
-use std::alloc::{AllocError, Global};
-use std::test::Fail;
+use std::alloc::Global;
+use std::process::Abort;
 
 // The example of RFC 7677, section 3.
 const NONCE: &[u8] = b"%hvYDpWUa2RaTCAfuxFIlj)hNlF$k0";
@@ -61,22 +62,37 @@ fn letter(said: &Said) -> u8 {
     }
 }
 
-fn push(alloc: Global, texts: &mut Vec<Text>, bytes: &[u8]) -> Result<(), AllocError> {
-    Ok(texts.push(Text::new(Vec::from_slice(alloc, bytes)?))?)
+fn texts_of<R: Abort>(rt: &R, alloc: Global, list: &[&[u8]]) -> Vec<Text> {
+    let mut texts = Vec::new(alloc);
+    for bytes in list {
+        texts.push(text(rt, alloc, bytes)).expect(rt, "memory");
+    }
+    texts
+}
+
+fn said<R: Abort>(
+    rt: &R,
+    alloc: Global,
+    messages: &[&[u8]],
+    salt: &[u8; 16],
+    stored: Option<&Stored>,
+) -> Said {
+    let texts = texts_of(rt, alloc, messages);
+    says(alloc, &texts, NONCE, salt, stored).expect(rt, "memory")
+}
+
+fn is_first<R: Abort>(rt: &R, alloc: Global, case: &[u8]) -> bool {
+    match case.split_first() {
+        Some((wanted, message)) => letter(&said(rt, alloc, &[message], &SALT, None)) == *wanted,
+        None => false,
+    }
 }
 
 #[test]
-fn a_first_message_is_on_its_form(rt: HostRuntime) -> Result<(), Fail> {
-    let alloc = rt.alloc();
+fn a_first_message_is_on_its_form(rt: HostRuntime) {
     for case in FIRST_MESSAGES.split(|byte| *byte == b'\n') {
-        if let Some((wanted, message)) = case.split_first() {
-            let mut texts = Vec::new(alloc);
-            push(alloc, &mut texts, message)?;
-            let said = says(alloc, &texts, NONCE, &SALT, None)?;
-            assert_eq!(rt; letter(&said), *wanted);
-        }
+        assert!(rt; is_first(&rt, rt.alloc(), case));
     }
-    Ok(())
 }
 
 // Whether this user is needed, to be authorized as the other.
@@ -92,57 +108,43 @@ fn needs(said: &Said, name: &[u8], other: &[u8]) -> bool {
 }
 
 #[test]
-fn names_are_told_without_their_escapes(rt: HostRuntime) -> Result<(), Fail> {
-    let alloc = rt.alloc();
-    let mut texts = Vec::new(alloc);
-    push(alloc, &mut texts, b"n,a==3D=2C,n=a=2Cb,r=x")?;
-    let said = says(alloc, &texts, NONCE, &SALT, None)?;
+fn names_are_told_without_their_escapes(rt: HostRuntime) {
+    let message = b"n,a==3D=2C,n=a=2Cb,r=x";
+    let said = said(&rt, rt.alloc(), &[message], &SALT, None);
     assert!(rt; needs(&said, b"a,b", b"=,"));
-    Ok(())
 }
 
-#[test]
-fn a_last_message_is_on_its_form(rt: HostRuntime) -> Result<(), Fail> {
-    let alloc = rt.alloc();
-    let text =
-        b"{SCRAM-SHA-256}4096,W22ZaJ0SNY7soEsUEjb6gQ==,WG5d8oPm3OtcPnkdi4Uo7BkeZkBFzpcXkuLmtbsT4qY=,wfPLwcE6nTWhTAmQ7tl2KeoiWGPlZqQxSrmfPwDl2dU=";
-    let Ok(stored) = Stored::read(alloc, Scheme::Plain, text) else {
-        panic!(rt; "no stored password");
-    };
-    for case in LAST_MESSAGES.split(|byte| *byte == b'\n') {
-        if let Some((wanted, message)) = case.split_first() {
-            let mut texts = Vec::new(alloc);
-            push(alloc, &mut texts, FIRST)?;
-            push(alloc, &mut texts, message)?;
-            let said = says(alloc, &texts, NONCE, &[0; 16], Some(&stored))?;
-            assert_eq!(rt; letter(&said), *wanted);
+fn is_last<R: Abort>(rt: &R, alloc: Global, case: &[u8], stored: &Stored) -> bool {
+    match case.split_first() {
+        Some((wanted, message)) => {
+            let said = said(rt, alloc, &[FIRST, message], &[0; 16], Some(stored));
+            letter(&said) == *wanted
         }
+        None => false,
     }
-    Ok(())
+}
+
+const STORED: &[u8] =
+    b"{SCRAM-SHA-256}4096,W22ZaJ0SNY7soEsUEjb6gQ==,WG5d8oPm3OtcPnkdi4Uo7BkeZkBFzpcXkuLmtbsT4qY=,wfPLwcE6nTWhTAmQ7tl2KeoiWGPlZqQxSrmfPwDl2dU=";
+
+#[test]
+fn a_last_message_is_on_its_form(rt: HostRuntime) {
+    let stored = stored_of(&rt, rt.alloc(), Scheme::Plain, STORED);
+    for case in LAST_MESSAGES.split(|byte| *byte == b'\n') {
+        assert!(rt; is_last(&rt, rt.alloc(), case, &stored));
+    }
+}
+
+fn answers<R: Abort>(rt: &R, alloc: Global, messages: &[&[u8]], stored: &Stored) -> u8 {
+    letter(&said(rt, alloc, messages, &SALT, Some(stored)))
 }
 
 #[test]
-fn the_example_is_answered_with_its_rounds(rt: HostRuntime) -> Result<(), Fail> {
+fn the_example_is_answered_with_its_rounds(rt: HostRuntime) {
     let alloc = rt.alloc();
-    let Ok(stored) = Stored::read(alloc, Scheme::Sha, b"{PLAIN}pencil") else {
-        panic!(rt; "no stored password");
-    };
-    let mut texts = Vec::new(alloc);
-    assert_eq!(rt; letter(&says(alloc, &texts, NONCE, &SALT, None)?), b'?');
-    push(alloc, &mut texts, FIRST)?;
-    assert_eq!(rt;
-        letter(&says(alloc, &texts, NONCE, &SALT, Some(&stored))?),
-        b'C'
-    );
-    push(alloc, &mut texts, LAST)?;
-    assert_eq!(rt;
-        letter(&says(alloc, &texts, NONCE, &SALT, Some(&stored))?),
-        b'R'
-    );
-    push(alloc, &mut texts, b"more")?;
-    assert_eq!(rt;
-        letter(&says(alloc, &texts, NONCE, &SALT, Some(&stored))?),
-        b'B'
-    );
-    Ok(())
+    let stored = stored_of(&rt, alloc, Scheme::Sha, b"{PLAIN}pencil");
+    assert!(rt; letter(&said(&rt, alloc, &[], &SALT, None)) == b'?');
+    assert!(rt; answers(&rt, alloc, &[FIRST], &stored) == b'C');
+    assert!(rt; answers(&rt, alloc, &[FIRST, LAST], &stored) == b'R');
+    assert!(rt; answers(&rt, alloc, &[FIRST, LAST, b"more"], &stored) == b'B');
 }
