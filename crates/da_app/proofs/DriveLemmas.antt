@@ -1,29 +1,14 @@
 -- The command `drive`, by the status of its parts.
-use Rattle.std.proofs.Common.{◌≡◌, List, Option, Some, None, Err, refl, subst, inl, inr}
+use Rattle.std.proofs.Common.{◌≡◌, List, Option, Some, None, Err, refl, subst, inr}
 use Rattle.da_base.specs.Words.{Bytes}
 use Rattle.da_outside.specs.Outside.{Outside, IsUntouched}
 use Rattle.da_command.specs.declared.status.Status.{Status}
 use Rattle.da_command.specs.declared.status.Status.TheVariants.{Done, Usage, BadScript, LongScript, BadInput, NoSettings, NoListen, NoMemory, ReadFault, WriteFault, Full, BadSettings}
 use Rattle.da_command.specs.SettingsFile.{ReadsSettings}
 use Rattle.da_command.specs.Words.{drive_path}
+use Rattle.da_work.proofs.CommandRunLemmas.{unread}
 use Rattle.da_app.specs.Drive.{RunsWith, Drives, Completes, RunsDrive}
 use Rattle.da_app.proofs.Complete.{completes}
-
--- no settings were read, and nothing of the input was read and nothing written
-drives_unread : (path : Bytes) (before after : Outside) (status : Status)
-    → ReadsSettings path before.files after.files (Err status) → IsUntouched before after → Drives (Some path) before after status
-drives_unread path before after NoSettings read same = (read, same)
-drives_unread path before after (BadSettings fault) read same = (read, same)
-drives_unread path before after NoMemory read same = inl (read, same)
-drives_unread path before after Done read same = absurd read
-drives_unread path before after Usage read same = absurd read
-drives_unread path before after (BadScript line) read same = absurd read
-drives_unread path before after LongScript read same = absurd read
-drives_unread path before after BadInput read same = absurd read
-drives_unread path before after NoListen read same = absurd read
-drives_unread path before after ReadFault read same = absurd read
-drives_unread path before after WriteFault read same = absurd read
-drives_unread path before after Full read same = absurd read
 
 -- the settings were read, and the script was played under them
 drives_ran : (path : Bytes) (before after : Outside) (status : Status) → RunsWith path before after status → Drives (Some path) before after status
@@ -50,7 +35,7 @@ module _ (words : List Bytes) (before after : Outside) where
 
   pub runs_unread : (path : Bytes) (status : Status) → Some path ≡ drive_path words → ReadsSettings path before.files after.files (Err status)
       → IsUntouched before after → RunsDrive words before after status
-  runs_unread path status same read kept = runs_at path status same (drives_unread path before after status read kept)
+  runs_unread path status same read kept = runs_at path status same (unread RunsWith path before after status read kept)
 
   pub runs_ran : (path : Bytes) (status : Status) → Some path ≡ drive_path words → RunsWith path before after status → RunsDrive words before after status
   runs_ran path status same runs = runs_at path status same (drives_ran path before after status runs)

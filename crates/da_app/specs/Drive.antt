@@ -1,18 +1,17 @@
 -- What `run_drive` does, by its words, its file and its input.
-use Rattle.std.specs.Prelude.{◌≡◌, ◌≤◌, ⊤, ◌^◌, ◌⊎◌, List, length, Option, Some, None, Ok}
+use Rattle.std.specs.Prelude.{◌≡◌, ◌≤◌, ⊤, ◌^◌, List, length, Option, Some, None, Ok}
 use Rattle.da_base.specs.Words.{Bytes}
 use Rattle.da_outside.specs.Causes.{Rose}
-use Rattle.da_outside.specs.FileReads.{ReadsNoOther}
 use Rattle.da_outside.specs.Files.{File, bytes_at}
-use Rattle.da_outside.specs.Outside.{Outside, IsUntouched}
+use Rattle.da_outside.specs.Outside.{Outside}
 use Rattle.da_settings.specs.declared.settings.Settings.{Settings}
 use Rattle.da_config.specs.SettingsText.{settings_of}
 use Rattle.da_stream.specs.BadLines.{first_bad_at_end}
 use Rattle.da_command.specs.declared.status.Status.{Status}
-use Rattle.da_command.specs.declared.status.Status.TheVariants.{Usage, NoSettings, NoMemory, BadSettings}
-use Rattle.da_command.specs.SettingsFile.{HoldsFault, HoldsSettings, PathFails}
+use Rattle.da_command.specs.SettingsFile.{HoldsSettings}
 use Rattle.da_command.specs.Statuses.{IsDone}
 use Rattle.da_command.specs.Words.{drive_path}
+use Rattle.da_work.specs.CommandRuns.{RunsAtPath}
 use Rattle.da_app.specs.Script.{is_event, first_full}
 use Rattle.da_app.specs.Play.{Ran}
 
@@ -22,22 +21,9 @@ pub record RunsWith (path : Bytes) (before after : Outside) (status : Status) : 
   pub holds : HoldsSettings path before.files after.files settings
   pub ran : Ran settings before.input after.input before.output after.output status
 
--- By the path and the status. Nothing else comes.
---   Usage: exactly where the words are off their form; nothing is read or written.
---   NoSettings: the read of PATH failed, before any input or output.
---   BadSettings: the file's text has this fault, before any input or output.
---   NoMemory: before any input or output, or as the script's play says.
---   The rest: as the script's play says.
--- No file is read but the one at PATH, and that at most once.
+-- the whole of it, by the path; none where the words are off their form
 abbrev pub Drives : Option Bytes → Outside → Outside → Status → Type 0
-Drives None before after Usage = after ≡ before
-Drives None before after _ = ⊥
-Drives (Some path) before after Usage = ⊥
-Drives (Some path) before after NoSettings = PathFails path before.files after.files × IsUntouched before after
-Drives (Some path) before after (BadSettings fault) = HoldsFault path before.files after.files fault × IsUntouched before after
-Drives (Some path) before after NoMemory =
-    (ReadsNoOther path before.files after.files × IsUntouched before after) ⊎ RunsWith path before after NoMemory
-Drives (Some path) before after status = RunsWith path before after status
+Drives path before after status = RunsAtPath RunsWith path before after status
 
 -- ---- completeness
 
