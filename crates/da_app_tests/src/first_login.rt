@@ -1,9 +1,10 @@
 // Runs of `drive` over files, an input and an output in memory.
 
+use crate::runs::{input_of, output_of, settings_of, words_of};
 use da_app::{Status, run_drive};
-use da_outside::{MemFiles, MemSink, MemSource};
-use std::alloc::{AllocError, Global};
-use std::test::Fail;
+use da_outside::MemSink;
+use std::alloc::Global;
+use std::process::Abort;
 
 const SETTINGS: &[u8] = b"failure_delay = 0\n";
 
@@ -40,24 +41,13 @@ struct Run<'a> {
     write_fails: u64,
 }
 
-pub(crate) fn words_of(alloc: Global, list: &[&str]) -> Result<Vec<String>, AllocError> {
-    let mut words = Vec::new(alloc);
-    for word in list {
-        words.push(String::from_str(alloc, word)?)?;
-    }
-    Ok(words)
-}
-
-fn drive(alloc: Global, run: &Run<'_>) -> Result<(Status, MemSink), AllocError> {
-    let words = words_of(alloc, run.words)?;
-    let path = Vec::from_slice(alloc, b"settings")?;
-    let text = Vec::from_slice(alloc, run.settings)?;
-    let mut files = MemFiles::new(vec![in alloc; (path, text)]?, Vec::new(alloc));
-    let script = Vec::from_slice(alloc, run.script)?;
-    let mut input = MemSource::new(script, vec![in alloc; run.read_fails]?);
-    let mut output = MemSink::new(alloc, vec![in alloc; run.write_fails]?);
+fn drive<R: Abort>(rt: &R, alloc: Global, run: &Run<'_>) -> (Status, MemSink) {
+    let words = words_of(rt, alloc, run.words);
+    let mut files = settings_of(rt, alloc, run.settings);
+    let mut input = input_of(rt, alloc, run.script, run.read_fails);
+    let mut output = output_of(rt, alloc, run.write_fails);
     let status = run_drive(alloc, &words, &mut files, &mut input, &mut output);
-    Ok((status, output))
+    (status, output)
 }
 
 fn a_run<'a>(script: &'a [u8]) -> Run<'a> {
@@ -70,13 +60,32 @@ fn a_run<'a>(script: &'a [u8]) -> Run<'a> {
     }
 }
 
+fn ends_so<R: Abort>(rt: &R, alloc: Global, run: &Run<'_>, code: u8, written: &[u8]) -> bool {
+    let (status, output) = drive(rt, alloc, run);
+    status.code() == code && output.bytes() == written
+}
+
 #[test]
-fn each_end_has_its_status_and_its_output(rt: HostRuntime) -> Result<(), Fail> {
+fn each_end_of_a_script_has_its_status_and_its_output(rt: HostRuntime) {
     let alloc = rt.alloc();
-    let right = a_run(SCRIPT);
-    let empty = a_run(b"");
-    let no_event = a_run(b"1000 open client -\n1001 line 1 - VERSION\t1\t1\n1002 ti\n");
-    let cut = a_run(b"1000 open client -\n1001 ti");
+    let no_event = b"1000 open client -\n1001 line 1 - VERSION\t1\t1\n1002 ti\n";
+    assert!(rt; ends_so(&rt, alloc, &a_run(SCRIPT), 0, REPLIES));
+    assert!(rt; ends_so(&rt, alloc, &a_run(b""), 0, b""));
+    assert!(rt; ends_so(&rt, alloc, &a_run(no_event), 65, GREETING));
+    assert!(rt;
+        ends_so(
+            &rt,
+            alloc,
+            &a_run(b"1000 open client -\n1001 ti"),
+            65,
+            GREETING
+        )
+    );
+}
+
+#[test]
+fn words_and_settings_that_are_refused_have_their_status(rt: HostRuntime) {
+    let alloc = rt.alloc();
     let words = Run {
         words: &["drive"],
         ..a_run(SCRIPT)
@@ -89,6 +98,14 @@ fn each_end_has_its_status_and_its_output(rt: HostRuntime) -> Result<(), Fail> {
         settings: b"failure_delay = 60001\n",
         ..a_run(SCRIPT)
     };
+    assert!(rt; ends_so(&rt, alloc, &words, 64, b""));
+    assert!(rt; ends_so(&rt, alloc, &missing, 66, b""));
+    assert!(rt; ends_so(&rt, alloc, &settings, 78, b""));
+}
+
+#[test]
+fn each_early_end_of_a_run_has_its_status_and_its_output(rt: HostRuntime) {
+    let alloc = rt.alloc();
     let full = Run {
         settings: b"history_entries = 1\n",
         ..a_run(SCRIPT)
@@ -101,41 +118,24 @@ fn each_end_has_its_status_and_its_output(rt: HostRuntime) -> Result<(), Fail> {
         write_fails: 2,
         ..a_run(SCRIPT)
     };
-    let table = [
-        (&right, 0, REPLIES),
-        (&empty, 0, b"".as_slice()),
-        (&no_event, 65, GREETING),
-        (&cut, 65, GREETING),
-        (&words, 64, b"".as_slice()),
-        (&missing, 66, b"".as_slice()),
-        (&settings, 78, b"".as_slice()),
-        (&full, 75, GREETING),
-        (&read, 74, GREETING),
-        (&write, 74, GREETING),
-    ];
-    for (run, code, written) in table {
-        let (status, output) = drive(alloc, run)?;
-        assert_eq!(rt; status.code(), code);
-        assert_eq!(rt; output.bytes(), written);
-    }
-    Ok(())
+    assert!(rt; ends_so(&rt, alloc, &full, 75, GREETING));
+    assert!(rt; ends_so(&rt, alloc, &read, 74, GREETING));
+    assert!(rt; ends_so(&rt, alloc, &write, 74, GREETING));
+}
+
+fn is_told<R: Abort>(rt: &R, alloc: Global, run: &Run<'_>, wanted: &[u8]) -> bool {
+    let (status, _) = drive(rt, alloc, run);
+    status.words(alloc).expect(rt, "memory").as_slice() == wanted
 }
 
 #[test]
-fn the_words_name_the_line_and_the_fault(rt: HostRuntime) -> Result<(), Fail> {
+fn the_words_name_the_line_and_the_fault(rt: HostRuntime) {
     let alloc = rt.alloc();
-    let (status, _) = drive(alloc, &a_run(b"1000 open client -\n1001 ti"))?;
-    let words = status.words(alloc)?;
-    assert_eq!(rt; words.as_slice(), b"line 2 is not an event".as_slice());
+    let cut = a_run(b"1000 open client -\n1001 ti");
     let other = Run {
         settings: b"colour = 1",
         ..a_run(SCRIPT)
     };
-    let (status, _) = drive(alloc, &other)?;
-    let words = status.words(alloc)?;
-    assert_eq!(rt;
-        words.as_slice(),
-        b"bad settings at colour: unknown".as_slice()
-    );
-    Ok(())
+    assert!(rt; is_told(&rt, alloc, &cut, b"line 2 is not an event"));
+    assert!(rt; is_told(&rt, alloc, &other, b"bad settings at colour: unknown"));
 }

@@ -12,6 +12,8 @@ mod lock_step;
 #[cfg(test)]
 mod pw;
 #[cfg(test)]
+mod runs;
+#[cfg(test)]
 mod tests_of_connections;
 #[cfg(test)]
 mod tests_of_databases;

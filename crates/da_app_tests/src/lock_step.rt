@@ -2,12 +2,12 @@
 
 ghost use Rattle.std.specs.Prelude.{None};
 
-use crate::first_login::words_of;
+use crate::runs::{settings_of, words_of};
 use da_app::{Status, run_drive, run_worker};
-use da_outside::{Failed, MemFiles, Sink, Source};
-use std::alloc::{AllocError, Global};
+use da_outside::{Failed, Sink, Source};
+use std::alloc::Global;
+use std::process::Abort;
 use std::sync::atomic::{AtomicUsize, Ordering};
-use std::test::Fail;
 
 const SETTINGS: &[u8] = b"failure_delay = 0\n";
 
@@ -64,11 +64,9 @@ impl<'a> Sink for Counter<'a> {
 }
 
 // Whether the command of this name answers the three lines, each before the next is read.
-fn keeps_step(alloc: Global, name: &str, lines: &[&[u8]]) -> Result<bool, AllocError> {
-    let words = words_of(alloc, &[name, "settings"])?;
-    let path = Vec::from_slice(alloc, b"settings")?;
-    let text = Vec::from_slice(alloc, SETTINGS)?;
-    let mut files = MemFiles::new(vec![in alloc; (path, text)]?, Vec::new(alloc));
+fn keeps_step<R: Abort>(rt: &R, alloc: Global, name: &str, lines: &[&[u8]]) -> bool {
+    let words = words_of(rt, alloc, &[name, "settings"]);
+    let mut files = settings_of(rt, alloc, SETTINGS);
     let answered = AtomicUsize::new(0);
     let mut input = Asker {
         lines,
@@ -84,17 +82,15 @@ fn keeps_step(alloc: Global, name: &str, lines: &[&[u8]]) -> Result<bool, AllocE
     } else {
         run_worker(alloc, &words, &mut files, &mut input, &mut output)
     };
-    Ok(matches!(status, Status::Done) && answered.load(Ordering::SeqCst) == 3)
+    matches!(status, Status::Done) && answered.load(Ordering::SeqCst) == 3
 }
 
 #[test]
-fn an_event_is_answered_before_the_next_is_read(rt: HostRuntime) -> Result<(), Fail> {
-    assert!(rt; keeps_step(rt.alloc(), "drive", &EVENTS)?);
-    Ok(())
+fn an_event_is_answered_before_the_next_is_read(rt: HostRuntime) {
+    assert!(rt; keeps_step(&rt, rt.alloc(), "drive", &EVENTS));
 }
 
 #[test]
-fn a_query_is_answered_before_the_next_is_read(rt: HostRuntime) -> Result<(), Fail> {
-    assert!(rt; keeps_step(rt.alloc(), "worker", &QUERIES)?);
-    Ok(())
+fn a_query_is_answered_before_the_next_is_read(rt: HostRuntime) {
+    assert!(rt; keeps_step(&rt, rt.alloc(), "worker", &QUERIES));
 }

@@ -1,10 +1,10 @@
 // Runs of a worker over files, an input and an output in memory.
 
-use crate::first_login::words_of;
+use crate::runs::{input_of, output_of, two_files, words_of};
 use da_app::{Status, run_worker};
-use da_outside::{MemFiles, MemSink, MemSource};
-use std::alloc::{AllocError, Global};
-use std::test::Fail;
+use da_outside::MemSink;
+use std::alloc::Global;
+use std::process::Abort;
 
 const SETTINGS: &[u8] = b"passdb = [\n\
 {driver = \"passwd-file\", args = \"users\"},\n\
@@ -23,132 +23,104 @@ const ANSWERS: &[u8] = b"FOUND\t1\t{PLAIN}pw\tuserdb_quota=1G\tnodelay\n\
 FOUND\t2\t\tuid=1000\tgid=1000\thome=/home/alice\tquota=1G\nUNKNOWN\t3\nFAIL\t4\tfile\n\
 FAIL\t5\tdriver\nFAIL\t6\tdriver\nFAIL\t7\tdriver\nFAIL\t8\tdriver\n";
 
-const WORDS: &[&str] = &["worker", "settings"];
-
 /// A run whose files, input and output fail at these calls.
 #[derive(Clone, Copy)]
-struct Run {
-    words: &'static [&'static str],
-    settings: &'static [u8],
-    input: &'static [u8],
+struct Run<'a> {
+    words: &'a [&'a str],
+    settings: &'a [u8],
+    input: &'a [u8],
     file_fails: u64,
     read_fails: u64,
     write_fails: u64,
 }
 
-const SOUND: Run = Run {
-    words: WORDS,
-    settings: SETTINGS,
-    input: QUERIES,
-    file_fails: 0,
-    read_fails: 0,
-    write_fails: 0,
-};
-
-fn work(alloc: Global, run: &Run) -> Result<(Status, MemSink), AllocError> {
-    let words = words_of(alloc, run.words)?;
-    let mut held = Vec::new(alloc);
-    held.push((
-        Vec::from_slice(alloc, b"settings")?,
-        Vec::from_slice(alloc, run.settings)?,
-    ))?;
-    held.push((
-        Vec::from_slice(alloc, b"users")?,
-        Vec::from_slice(alloc, USERS)?,
-    ))?;
-    let mut files = MemFiles::new(held, vec![in alloc; run.file_fails]?);
-    let bytes = Vec::from_slice(alloc, run.input)?;
-    let mut input = MemSource::new(bytes, vec![in alloc; run.read_fails]?);
-    let mut output = MemSink::new(alloc, vec![in alloc; run.write_fails]?);
-    let status = run_worker(alloc, &words, &mut files, &mut input, &mut output);
-    Ok((status, output))
-}
-
-#[test]
-fn each_query_is_answered_by_the_file_of_its_database(rt: HostRuntime) -> Result<(), Fail> {
-    let (status, output) = work(rt.alloc(), &SOUND)?;
-    assert_eq!(rt; status.code(), 0);
-    assert_eq!(rt; output.bytes(), ANSWERS);
-    Ok(())
-}
-
-// A run, its status's words, and what is written.
-const ENDS: [(Run, &[u8], &[u8]); 8] = [
-    (
-        Run {
-            words: &["worker"],
-            ..SOUND
-        },
-        b"usage",
-        b"",
-    ),
-    (
-        Run {
-            words: &["worker", "other"],
-            ..SOUND
-        },
-        b"no settings",
-        b"",
-    ),
-    (
-        Run {
-            file_fails: 1,
-            ..SOUND
-        },
-        b"no settings",
-        b"",
-    ),
-    (
-        Run {
-            settings: b"colour = 1",
-            ..SOUND
-        },
-        b"bad settings at colour: unknown",
-        b"",
-    ),
-    (
-        Run {
-            input: b"PASS\t3\t1\tcarol\nPASS\t1\t1\talice",
-            ..SOUND
-        },
-        b"bad input",
-        b"UNKNOWN\t3\n",
-    ),
-    (
-        Run {
-            input: b"PASS\t3\t1\tcarol\n",
-            read_fails: 2,
-            ..SOUND
-        },
-        b"read fault",
-        b"UNKNOWN\t3\n",
-    ),
-    (
-        Run {
-            write_fails: 1,
-            ..SOUND
-        },
-        b"write fault",
-        b"",
-    ),
-    (
-        Run {
-            input: b"PASS\t9\t1\talice\n",
-            file_fails: 2,
-            ..SOUND
-        },
-        b"",
-        b"FAIL\t9\tfile\n",
-    ),
-];
-
-#[test]
-fn each_end_of_a_worker_has_its_status(rt: HostRuntime) -> Result<(), Fail> {
-    let alloc = rt.alloc();
-    for (run, words, written) in ENDS {
-        let (status, output) = work(alloc, &run)?;
-        assert_eq!(rt; status.words(alloc)?.as_slice(), words);
-        assert_eq!(rt; output.bytes(), written);
+fn a_run<'a>() -> Run<'a> {
+    Run {
+        words: &["worker", "settings"],
+        settings: SETTINGS,
+        input: QUERIES,
+        file_fails: 0,
+        read_fails: 0,
+        write_fails: 0,
     }
-    Ok(())
+}
+
+fn work<R: Abort>(rt: &R, alloc: Global, run: &Run<'_>) -> (Status, MemSink) {
+    let words = words_of(rt, alloc, run.words);
+    let mut files = two_files(rt, alloc, run.settings, USERS, run.file_fails);
+    let mut input = input_of(rt, alloc, run.input, run.read_fails);
+    let mut output = output_of(rt, alloc, run.write_fails);
+    let status = run_worker(alloc, &words, &mut files, &mut input, &mut output);
+    (status, output)
+}
+
+#[test]
+fn each_query_is_answered_by_the_file_of_its_database(rt: HostRuntime) {
+    let (status, output) = work(&rt, rt.alloc(), &a_run());
+    assert!(rt; status.code() == 0);
+    assert!(rt; output.bytes() == ANSWERS);
+}
+
+fn ends_so<R: Abort>(rt: &R, alloc: Global, run: &Run<'_>, wanted: &[u8], written: &[u8]) -> bool {
+    let (status, output) = work(rt, alloc, run);
+    let words = status.words(alloc).expect(rt, "memory");
+    words.as_slice() == wanted && output.bytes() == written
+}
+
+#[test]
+fn words_and_settings_that_are_refused_are_told(rt: HostRuntime) {
+    let usage = Run {
+        words: &["worker"],
+        ..a_run()
+    };
+    let missing = Run {
+        words: &["worker", "other"],
+        ..a_run()
+    };
+    let unread = Run {
+        file_fails: 1,
+        ..a_run()
+    };
+    let unknown = Run {
+        settings: b"colour = 1",
+        ..a_run()
+    };
+    assert!(rt; ends_so(&rt, rt.alloc(), &usage, b"usage", b""));
+    assert!(rt; ends_so(&rt, rt.alloc(), &missing, b"no settings", b""));
+    assert!(rt; ends_so(&rt, rt.alloc(), &unread, b"no settings", b""));
+    assert!(rt;
+        ends_so(
+            &rt,
+            rt.alloc(),
+            &unknown,
+            b"bad settings at colour: unknown",
+            b""
+        )
+    );
+}
+
+#[test]
+fn each_end_of_a_worker_has_its_status(rt: HostRuntime) {
+    let cut = Run {
+        input: b"PASS\t3\t1\tcarol\nPASS\t1\t1\talice",
+        ..a_run()
+    };
+    let read = Run {
+        input: b"PASS\t3\t1\tcarol\n",
+        read_fails: 2,
+        ..a_run()
+    };
+    let write = Run {
+        write_fails: 1,
+        ..a_run()
+    };
+    let file = Run {
+        input: b"PASS\t9\t1\talice\n",
+        file_fails: 2,
+        ..a_run()
+    };
+    assert!(rt; ends_so(&rt, rt.alloc(), &cut, b"bad input", b"UNKNOWN\t3\n"));
+    assert!(rt; ends_so(&rt, rt.alloc(), &read, b"read fault", b"UNKNOWN\t3\n"));
+    assert!(rt; ends_so(&rt, rt.alloc(), &write, b"write fault", b""));
+    assert!(rt; ends_so(&rt, rt.alloc(), &file, b"", b"FAIL\t9\tfile\n"));
 }
