@@ -1,7 +1,8 @@
 // A client that is served by calls one after another, and a history that is printed.
 
-ghost use Rattle.std.specs.Prelude.{◌≡◌};
-ghost use Rattle.da_turn.specs.Seats.{IsFree, IsOf};
+ghost use Rattle.std.specs.Prelude.{◌≡◌, true};
+ghost use Rattle.da_serve.specs.Printed.{HasEnded};
+ghost use Rattle.da_turn.specs.Seats.{IsFree, IsOf, seen};
 
 use crate::slow::SlowSink;
 use da_core::{Goal, Settings};
@@ -92,6 +93,15 @@ fn session<R: Wait>(
     Some((read, write))
 }
 
+// Whether the history has ended.
+fn has_ended<R: Wait>(rt: &R, port: &Port, seat: &mut Seat) -> bool
+    requires { IsOf port.now seat.old × IsFree seat.old }
+    ensures own { IsOf port.now seat.new × IsFree seat.new }
+    ensures ended { result ≡ true → HasEnded port.now.fixed (seen seat.new) }
+{
+    port.end(rt, seat).is_some()
+}
+
 // Serves the client under these settings, and prints the history to an output that takes a byte at a time and fails at this
 // write, counted from 1; 0 for none. `None` where it wasn't served to its end.
 fn serve<R: Wait>(rt: &R, alloc: Global, settings: &[u8], write_fails: u64) -> Option<Served> {
@@ -102,7 +112,9 @@ fn serve<R: Wait>(rt: &R, alloc: Global, settings: &[u8], write_fails: u64) -> O
     };
     let (port, mut seat) = Port::new(alloc, settings, Some(GOAL)).ok()?;
     let (read, write) = session(rt, alloc, &port, &mut seat, &mut sent)?;
-    port.end(rt, &mut seat)?;
+    if !has_ended(rt, &port, &mut seat) {
+        return None;
+    }
     let status = finish_serve(rt, alloc, port, seat, &mut printed).code();
     Some(Served {
         read,

@@ -1,7 +1,8 @@
 // One client's connection that is opened, read, written and printed by calls one after another.
 
-ghost use Rattle.std.specs.Prelude.{◌≡◌};
-ghost use Rattle.da_turn.specs.Seats.{IsFree, IsOf};
+ghost use Rattle.std.specs.Prelude.{◌≡◌, true};
+ghost use Rattle.da_serve.specs.Printed.{HasEnded};
+ghost use Rattle.da_turn.specs.Seats.{IsFree, IsOf, seen};
 
 use da_command::Status;
 use da_core::{Goal, Settings};
@@ -76,6 +77,15 @@ fn session<R: Wait>(
     Some((read, write))
 }
 
+// Whether the history has ended.
+fn has_ended<R: Wait>(rt: &R, port: &Port, seat: &mut Seat) -> bool
+    requires { IsOf port.now seat.old × IsFree seat.old }
+    ensures own { IsOf port.now seat.new × IsFree seat.new }
+    ensures ended { result ≡ true → HasEnded port.now.fixed (seen seat.new) }
+{
+    port.end(rt, seat).is_some()
+}
+
 // `None` where it wasn't served to its end.
 fn serve<R: Wait>(rt: &R, alloc: Global, client: Client<'_>) -> Option<Served> {
     let settings = settings_of(alloc)?;
@@ -83,7 +93,9 @@ fn serve<R: Wait>(rt: &R, alloc: Global, client: Client<'_>) -> Option<Served> {
     let mut sent = MemSink::new(alloc, Vec::new(alloc));
     let mut printed = MemSink::new(alloc, Vec::new(alloc));
     let (read, write) = session(rt, alloc, &port, &mut seat, client, &mut sent)?;
-    port.end(rt, &mut seat)?;
+    if !has_ended(rt, &port, &mut seat) {
+        return None;
+    }
     let status = finish_serve(rt, alloc, port, seat, &mut printed).code();
     Some(Served {
         read,
