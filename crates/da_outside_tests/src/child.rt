@@ -1,8 +1,9 @@
+use crate::memory::bytes_of;
 use da_child::*;
 use da_fields::{Answer, Why};
 use da_outside::{Bytes, Exit, MemRunner};
-use std::alloc::{AllocError, Global};
-use std::test::Fail;
+use std::alloc::Global;
+use std::process::Abort;
 
 // A status, a reply, and the answer that they mean by its first letter: Passed, Wrong, Unknown, malFormed, Exit.
 const ENDS: &[(u32, &[u8], u8)] = &[
@@ -32,53 +33,53 @@ fn letter(answer: &Answer) -> u8 {
     }
 }
 
-fn runner(alloc: Global, status: u32, reply: &[u8]) -> Result<MemRunner, AllocError> {
+fn runner<R: Abort>(rt: &R, alloc: Global, status: u32, reply: &[u8]) -> MemRunner {
+    let reply = Bytes::new(bytes_of(rt, alloc, reply));
     let mut exits = Vec::new(alloc);
-    exits.push(Exit {
-        status,
-        reply: Bytes::new(Vec::from_slice(alloc, reply)?),
-    })?;
-    Ok(MemRunner::new(alloc, exits, Vec::new(alloc)))
+    exits.push(Exit { status, reply }).expect(rt, "memory");
+    MemRunner::new(alloc, exits, Vec::new(alloc))
+}
+
+fn means<R: Abort>(rt: &R, alloc: Global, status: u32, reply: &[u8], wanted: u8) -> bool {
+    let mut runner = runner(rt, alloc, status, reply);
+    let answer = check(alloc, &mut runner, b"program", b"alice", b"pw").expect(rt, "memory");
+    letter(&answer) == wanted
 }
 
 #[test]
-fn an_end_means_its_answer(rt: HostRuntime) -> Result<(), Fail> {
-    let alloc = rt.alloc();
+fn an_end_means_its_answer(rt: HostRuntime) {
     for (status, reply, wanted) in ENDS {
-        let mut runner = runner(alloc, *status, reply)?;
-        let answer = check(alloc, &mut runner, b"program", b"alice", b"pw")?;
-        assert!(rt; letter(&answer) == *wanted);
+        assert!(rt; means(&rt, rt.alloc(), *status, reply, *wanted));
     }
-    Ok(())
+}
+
+// A runner that was told this name and this password.
+fn told<R: Abort>(rt: &R, alloc: Global, user: &[u8], password: &[u8]) -> MemRunner {
+    let mut runner = runner(rt, alloc, 1, b"");
+    let _ = check(alloc, &mut runner, b"program", user, password).expect(rt, "memory");
+    runner
 }
 
 #[test]
-fn the_program_is_told_the_name_and_the_password(rt: HostRuntime) -> Result<(), Fail> {
-    let alloc = rt.alloc();
-    let mut runner = runner(alloc, 1, b"")?;
-    check(alloc, &mut runner, b"program", b"alice", b"pw")?;
-    let reported = runner.past().first().is_some_and(|run| {
-        run.program.bytes() == b"program".as_slice()
-            && run.input.bytes() == b"alice\0pw\0\0".as_slice()
-    });
-    assert!(rt; reported);
-    Ok(())
+fn the_program_is_told_the_name_and_the_password(rt: HostRuntime) {
+    let runner = told(&rt, rt.alloc(), b"alice", b"pw");
+    let Some(run) = runner.past().first() else {
+        panic!(rt; "no run");
+    };
+    assert!(rt; run.program.bytes() == b"program".as_slice());
+    assert!(rt; run.input.bytes() == b"alice\0pw\0\0".as_slice());
 }
 
 // How many runs are made for a name and a password.
-fn runs(alloc: Global, user: &[u8], password: &[u8]) -> Result<usize, AllocError> {
-    let mut runner = runner(alloc, 1, b"")?;
-    check(alloc, &mut runner, b"program", user, password)?;
-    Ok(runner.past().len())
+fn runs<R: Abort>(rt: &R, alloc: Global, user: &[u8], password: &[u8]) -> usize {
+    told(rt, alloc, user, password).past().len()
 }
 
 #[test]
-fn what_cannot_be_told_is_not_run(rt: HostRuntime) -> Result<(), Fail> {
-    let alloc = rt.alloc();
+fn what_cannot_be_told_is_not_run(rt: HostRuntime) {
     let long = [b'a'; 510];
-    assert!(rt; runs(alloc, b"a\0b", b"pw")? == 0);
-    assert!(rt; runs(alloc, b"alice", b"p\0w")? == 0);
-    assert!(rt; runs(alloc, b"", &long)? == 0);
-    assert!(rt; runs(alloc, b"", &long[..509])? == 1);
-    Ok(())
+    assert!(rt; runs(&rt, rt.alloc(), b"a\0b", b"pw") == 0);
+    assert!(rt; runs(&rt, rt.alloc(), b"alice", b"p\0w") == 0);
+    assert!(rt; runs(&rt, rt.alloc(), b"", &long) == 0);
+    assert!(rt; runs(&rt, rt.alloc(), b"", &long[..509]) == 1);
 }

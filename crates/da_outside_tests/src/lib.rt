@@ -4,6 +4,8 @@
 #[cfg(test)]
 mod child;
 #[cfg(test)]
+mod memory;
+#[cfg(test)]
 mod outside;
 #[cfg(test)]
 mod stream;

@@ -2,10 +2,11 @@
 
 ghost use Rattle.std.specs.Prelude.{◌≡◌, ⊤};
 
+use crate::memory::{bytes_of, calls_of};
 use da_outside::{MemSink, MemSource, Sink};
 use da_stream::{Gathered, LineHandler, LinesEnd, read_up_to, run_lines, write_all};
-use std::alloc::{AllocError, Global};
-use std::test::Fail;
+use std::alloc::Global;
+use std::process::Abort;
 
 #[derive(Clone, Copy, Drop, PartialEq, Eq)]
 enum Stop {
@@ -42,26 +43,54 @@ impl<'a, K: Sink> LineHandler for Writer<'a, K> {
     }
 }
 
-// Whether a run over this input, whose lines have at most 4 bytes, writes this and ends so. The calls of these numbers
-// fail, none where it is 0.
-fn ends_so(
+// What a run over this input is, whose lines have at most 4 bytes. The calls of these numbers fail, none where it is 0.
+#[derive(Clone, Copy)]
+struct Run<'a> {
+    input: &'a [u8],
+    read_fails: u64,
+    write_fails: u64,
+}
+
+// Whether the run writes this and ends so.
+fn ends_so<R: Abort>(
+    rt: &R,
     alloc: Global,
-    input: &[u8],
-    fails: (u64, u64),
+    run: Run<'_>,
     written: &[u8],
     end: LinesEnd<Stop>,
-) -> Result<bool, AllocError> {
-    let mut source = MemSource::new(input.to_vec(alloc)?, [fails.0].to_vec(alloc)?);
-    let mut output = MemSink::new(alloc, [fails.1].to_vec(alloc)?);
+) -> bool {
+    let input = bytes_of(rt, alloc, run.input);
+    let mut source = MemSource::new(input, calls_of(rt, alloc, &[run.read_fails]));
+    let mut output = MemSink::new(alloc, calls_of(rt, alloc, &[run.write_fails]));
     let mut writer = Writer {
         output: &mut output,
     };
     let reported = run_lines(alloc, 4, &mut source, &mut writer);
-    Ok(reported == end && output.bytes() == written)
+    reported == end && output.bytes() == written
+}
+
+fn sound(input: &[u8]) -> Run<'_> {
+    Run {
+        input,
+        read_fails: 0,
+        write_fails: 0,
+    }
 }
 
 #[test]
-fn each_end_of_an_input_is_told(rt: HostRuntime) -> Result<(), Fail> {
+fn each_end_of_the_lines_is_told(rt: HostRuntime) {
+    let alloc = rt.alloc();
+    let cut = LinesEnd::Cut { line: 2 };
+    let long = LinesEnd::TooLong { line: 2 };
+    assert!(rt; ends_so(&rt, alloc, sound(b""), b"", LinesEnd::Done));
+    assert!(rt; ends_so(&rt, alloc, sound(b"a\n\nbcde\n"), b"abcde", LinesEnd::Done));
+    assert!(rt; ends_so(&rt, alloc, sound(b"a\nb"), b"a", cut));
+    assert!(rt; ends_so(&rt, alloc, sound(b"a\nbcdef\n"), b"a", long));
+    assert!(rt; ends_so(&rt, alloc, sound(b"a\nbcdef"), b"a", long));
+}
+
+#[test]
+fn each_end_within_the_lines_is_told(rt: HostRuntime) {
     let alloc = rt.alloc();
     let stopped = LinesEnd::Stopped {
         line: 2,
@@ -71,35 +100,30 @@ fn each_end_of_an_input_is_told(rt: HostRuntime) -> Result<(), Fail> {
         line: 2,
         stop: Stop::WriteFault,
     };
-    let table = [
-        (b"".as_slice(), (0, 0), b"".as_slice(), LinesEnd::Done),
-        (b"a\n\nbcde\n", (0, 0), b"abcde", LinesEnd::Done),
-        (b"a\nb", (0, 0), b"a", LinesEnd::Cut { line: 2 }),
-        (b"a\nbcdef\n", (0, 0), b"a", LinesEnd::TooLong { line: 2 }),
-        (b"a\nbcdef", (0, 0), b"a", LinesEnd::TooLong { line: 2 }),
-        (b"a\nstop\nb\n", (0, 0), b"a", stopped),
-        (b"a\nb\n", (0, 2), b"a", unwritten),
-        (b"a\nb\n", (2, 0), b"ab", LinesEnd::ReadFault),
-    ];
-    for (input, fails, written, end) in table {
-        assert!(rt; ends_so(alloc, input, fails, written, end)?);
-    }
-    Ok(())
+    let write = Run {
+        write_fails: 2,
+        ..sound(b"a\nb\n")
+    };
+    let read = Run {
+        read_fails: 2,
+        ..sound(b"a\nb\n")
+    };
+    assert!(rt; ends_so(&rt, alloc, sound(b"a\nstop\nb\n"), b"a", stopped));
+    assert!(rt; ends_so(&rt, alloc, write, b"a", unwritten));
+    assert!(rt; ends_so(&rt, alloc, read, b"ab", LinesEnd::ReadFault));
 }
 
 // Whether the bytes of a source are read whole, where at most this many are asked for.
-fn is_whole(alloc: Global, bytes: &[u8], max: usize) -> Result<bool, AllocError> {
-    let mut source = MemSource::new(bytes.to_vec(alloc)?, Vec::new(alloc));
+fn is_whole<R: Abort>(rt: &R, alloc: Global, bytes: &[u8], max: usize) -> bool {
+    let mut source = MemSource::new(bytes_of(rt, alloc, bytes), Vec::new(alloc));
     match read_up_to(alloc, &mut source, max) {
-        Gathered::Whole(read) => Ok(read.as_slice() == bytes),
-        Gathered::Long | Gathered::ReadFault | Gathered::NoMemory => Ok(false),
+        Gathered::Whole(read) => read.as_slice() == bytes,
+        Gathered::Long | Gathered::ReadFault | Gathered::NoMemory => false,
     }
 }
 
 #[test]
-fn a_source_is_read_to_its_end_or_to_its_limit(rt: HostRuntime) -> Result<(), Fail> {
-    let alloc = rt.alloc();
-    assert!(rt; is_whole(alloc, b"abc", 3)?);
-    assert!(rt; !is_whole(alloc, b"abc", 2)?);
-    Ok(())
+fn a_source_is_read_to_its_end_or_to_its_limit(rt: HostRuntime) {
+    assert!(rt; is_whole(&rt, rt.alloc(), b"abc", 3));
+    assert!(rt; !is_whole(&rt, rt.alloc(), b"abc", 2));
 }

@@ -1,10 +1,11 @@
 // Runs of a worker over files, an input and an output in memory.
 
+use crate::memory::{bytes_of, calls_of};
 use da_fields::Text;
 use da_outside::{MemFiles, MemSink, MemSource};
 use da_worker::{WorkerStatus, answer_all};
-use std::alloc::{AllocError, Global};
-use std::test::Fail;
+use std::alloc::Global;
+use std::process::Abort;
 
 const USERS: &[u8] = b"# users\nalice:{PLAIN}pw:1000:1000::/home/alice::userdb_quota=1G nodelay\n";
 
@@ -35,45 +36,50 @@ const SOUND: Faults = Faults {
     write: 0,
 };
 
-fn bytes(alloc: Global, bytes: &[u8]) -> Result<Vec<u8>, AllocError> {
-    Vec::from_slice(alloc, bytes)
-}
-
-fn paths(alloc: Global, list: &[&[u8]]) -> Result<Vec<Text>, AllocError> {
+fn paths<R: Abort>(rt: &R, alloc: Global, list: &[&[u8]]) -> Vec<Text> {
     let mut paths = Vec::new(alloc);
     for path in list {
-        paths.push(Text::new(bytes(alloc, path)?))?;
+        let path = Text::new(bytes_of(rt, alloc, path));
+        paths.push(path).expect(rt, "memory");
     }
-    Ok(paths)
+    paths
+}
+
+// The file, and a file that is too long.
+fn files<R: Abort>(rt: &R, alloc: Global, file: &[u8], fails: u64) -> MemFiles {
+    let mut held = Vec::new(alloc);
+    let one = (bytes_of(rt, alloc, b"file"), bytes_of(rt, alloc, file));
+    held.push(one).expect(rt, "memory");
+    let long = vec![in alloc; b'#'; 4_194_305].expect(rt, "memory");
+    held.push((bytes_of(rt, alloc, b"long"), long))
+        .expect(rt, "memory");
+    MemFiles::new(held, calls_of(rt, alloc, &[fails]))
 }
 
 // The run over a file, by which password and user database 1 answer, and an input.
-fn run(
+fn run<R: Abort>(
+    rt: &R,
     alloc: Global,
     file: &[u8],
     input: &[u8],
     faults: Faults,
-) -> Result<(WorkerStatus, MemSink, MemFiles), AllocError> {
-    let pass = paths(alloc, &[b"file", b"missing", b"", b"long"])?;
-    let users = paths(alloc, &[b"file"])?;
-    let mut held = Vec::new(alloc);
-    held.push((bytes(alloc, b"file")?, bytes(alloc, file)?))?;
-    held.push((bytes(alloc, b"long")?, vec![in alloc; b'#'; 4_194_305]?))?;
-    let mut files = MemFiles::new(held, vec![in alloc; faults.file]?);
-    let mut source = MemSource::new(bytes(alloc, input)?, vec![in alloc; faults.read]?);
-    let mut sink = MemSink::new(alloc, vec![in alloc; faults.write]?);
+) -> (WorkerStatus, MemSink, MemFiles) {
+    let pass = paths(rt, alloc, &[b"file", b"missing", b"", b"long"]);
+    let users = paths(rt, alloc, &[b"file"]);
+    let mut files = files(rt, alloc, file, faults.file);
+    let input = bytes_of(rt, alloc, input);
+    let mut source = MemSource::new(input, calls_of(rt, alloc, &[faults.read]));
+    let mut sink = MemSink::new(alloc, calls_of(rt, alloc, &[faults.write]));
     let status = answer_all(alloc, &pass, &users, &mut files, &mut source, &mut sink);
-    Ok((status, sink, files))
+    (status, sink, files)
 }
 
 #[test]
-fn each_query_is_answered_in_order(rt: HostRuntime) -> Result<(), Fail> {
-    let alloc = rt.alloc();
-    let (status, sink, files) = run(alloc, USERS, QUERIES, SOUND)?;
+fn each_query_is_answered_in_order(rt: HostRuntime) {
+    let (status, sink, files) = run(&rt, rt.alloc(), USERS, QUERIES, SOUND);
     assert!(rt; status == WorkerStatus::Done);
-    assert_eq!(rt; sink.bytes(), ANSWERS);
+    assert!(rt; sink.bytes() == ANSWERS);
     assert!(rt; files.past().len() == 6);
-    Ok(())
 }
 
 // A file, and the answer to its query 1 for the password, and to query 2 for the fields, of the user `alice`.
@@ -101,84 +107,91 @@ const FILES: &[(&[u8], &[u8])] = &[
     (b"alice:a\tb\x01", b"FOUND\t1\ta\x01tb\x011\nFOUND\t2\t\n"),
 ];
 
+// Whether the run over a file and an input has this status and these answers.
+fn ends_so<R: Abort>(
+    rt: &R,
+    alloc: Global,
+    file: &[u8],
+    input: &[u8],
+    faults: Faults,
+    end: (WorkerStatus, &[u8]),
+) -> bool {
+    let (status, sink, _) = run(rt, alloc, file, input, faults);
+    status == end.0 && sink.bytes() == end.1
+}
+
+const TWO_QUERIES: &[u8] = b"PASS\t1\t1\talice\nUSER\t2\t1\talice\n";
+
 #[test]
-fn the_first_line_of_the_user_answers(rt: HostRuntime) -> Result<(), Fail> {
-    let alloc = rt.alloc();
+fn the_first_line_of_the_user_answers(rt: HostRuntime) {
     for (file, answers) in FILES {
-        let (status, sink, _) = run(
-            alloc,
-            file,
-            b"PASS\t1\t1\talice\nUSER\t2\t1\talice\n",
-            SOUND,
-        )?;
-        assert!(rt; status == WorkerStatus::Done);
-        assert_eq!(rt; sink.bytes(), *answers);
+        let end = (WorkerStatus::Done, *answers);
+        assert!(rt; ends_so(&rt, rt.alloc(), file, TWO_QUERIES, SOUND, end));
     }
-    Ok(())
+}
+
+fn ends_with<R: Abort>(
+    rt: &R,
+    alloc: Global,
+    input: &[u8],
+    faults: Faults,
+    status: WorkerStatus,
+) -> bool {
+    ends_so(rt, alloc, USERS, input, faults, (status, FOUND))
+}
+
+const QUERY: &[u8] = b"PASS\t1\t1\talice\n";
+
+const TWICE: &[u8] = b"PASS\t1\t1\talice\nPASS\t1\t1\talice\n";
+
+// Inputs whose second line is no query, or is cut.
+const BAD: [&[u8]; 3] = [
+    b"PASS\t1\t1\talice\nPASS\t2\n",
+    b"PASS\t1\t1\talice\n\n",
+    b"PASS\t1\t1\talice\nPASS\t2\t1\talice",
+];
+
+#[test]
+fn each_end_has_its_status(rt: HostRuntime) {
+    let alloc = rt.alloc();
+    let empty = (WorkerStatus::Done, b"".as_slice());
+    let read = Faults { read: 2, ..SOUND };
+    let write = Faults { write: 2, ..SOUND };
+    assert!(rt; ends_so(&rt, alloc, USERS, b"", SOUND, empty));
+    assert!(rt; ends_with(&rt, alloc, QUERY, SOUND, WorkerStatus::Done));
+    assert!(rt; ends_with(&rt, alloc, QUERY, read, WorkerStatus::ReadFault));
+    assert!(rt; ends_with(&rt, alloc, TWICE, write, WorkerStatus::WriteFault));
 }
 
 #[test]
-fn each_end_has_its_status(rt: HostRuntime) -> Result<(), Fail> {
-    let alloc = rt.alloc();
-    let bad = WorkerStatus::BadInput { line: 2 };
-    let query = b"PASS\t1\t1\talice\n".as_slice();
-    let twice = b"PASS\t1\t1\talice\nPASS\t1\t1\talice\n".as_slice();
-    let read = Faults { read: 2, ..SOUND };
-    let write = Faults { write: 2, ..SOUND };
-    let table = [
-        (b"".as_slice(), SOUND, WorkerStatus::Done, b"".as_slice()),
-        (query, SOUND, WorkerStatus::Done, FOUND),
-        (
-            b"PASS\t1\t1\talice\nPASS\t2\n".as_slice(),
-            SOUND,
-            bad,
-            FOUND,
-        ),
-        (b"PASS\t1\t1\talice\n\n".as_slice(), SOUND, bad, FOUND),
-        (
-            b"PASS\t1\t1\talice\nPASS\t2\t1\talice".as_slice(),
-            SOUND,
-            bad,
-            FOUND,
-        ),
-        (query, read, WorkerStatus::ReadFault, FOUND),
-        (twice, write, WorkerStatus::WriteFault, FOUND),
-    ];
-    for (input, faults, wanted, answers) in table {
-        let (status, sink, _) = run(alloc, USERS, input, faults)?;
-        assert!(rt; status == wanted);
-        assert_eq!(rt; sink.bytes(), answers);
+fn an_input_that_is_bad_has_its_line(rt: HostRuntime) {
+    for input in BAD {
+        let bad = WorkerStatus::BadInput { line: 2 };
+        assert!(rt; ends_with(&rt, rt.alloc(), input, SOUND, bad));
     }
-    Ok(())
 }
 
 // The status for an input whose second line is a query of nine bytes and so many more.
-fn status_at(alloc: Global, more: usize) -> Result<WorkerStatus, AllocError> {
-    let mut input = bytes(alloc, b"PASS\t1\t1\talice\nPASS\t2\t1\t")?;
-    let mut name = vec![in alloc; b'x'; more]?;
-    input.append(&mut name)?;
-    input.push(b'\n')?;
-    Ok(run(alloc, USERS, &input, SOUND)?.0)
+fn status_at<R: Abort>(rt: &R, alloc: Global, more: usize) -> WorkerStatus {
+    let mut input = bytes_of(rt, alloc, b"PASS\t1\t1\talice\nPASS\t2\t1\t");
+    let mut name = vec![in alloc; b'x'; more].expect(rt, "memory");
+    input.append(&mut name).expect(rt, "memory");
+    input.push(b'\n').expect(rt, "memory");
+    run(rt, alloc, USERS, &input, SOUND).0
 }
 
 #[test]
-fn a_line_has_at_most_8192_bytes(rt: HostRuntime) -> Result<(), Fail> {
-    let alloc = rt.alloc();
-    assert!(rt; status_at(alloc, 8183)? == WorkerStatus::Done);
-    assert!(rt; status_at(alloc, 8184)? == WorkerStatus::BadInput { line: 2 });
-    Ok(())
+fn a_line_has_at_most_8192_bytes(rt: HostRuntime) {
+    assert!(rt; status_at(&rt, rt.alloc(), 8183) == WorkerStatus::Done);
+    assert!(rt; status_at(&rt, rt.alloc(), 8184) == WorkerStatus::BadInput { line: 2 });
 }
 
+const FILE_FAULT: &[u8] = b"FAIL\t9\tfile\nFOUND\t1\t{PLAIN}pw\tuserdb_quota=1G\tnodelay\n";
+
 #[test]
-fn a_fault_of_the_files_does_not_end_the_run(rt: HostRuntime) -> Result<(), Fail> {
-    let alloc = rt.alloc();
+fn a_fault_of_the_files_does_not_end_the_run(rt: HostRuntime) {
     let first = Faults { file: 1, ..SOUND };
     let input = b"PASS\t9\t1\talice\nPASS\t1\t1\talice\n";
-    let (status, sink, _) = run(alloc, USERS, input, first)?;
-    assert!(rt; status == WorkerStatus::Done);
-    assert_eq!(rt;
-        sink.bytes(),
-        b"FAIL\t9\tfile\nFOUND\t1\t{PLAIN}pw\tuserdb_quota=1G\tnodelay\n".as_slice()
-    );
-    Ok(())
+    let end = (WorkerStatus::Done, FILE_FAULT);
+    assert!(rt; ends_so(&rt, rt.alloc(), USERS, input, first, end));
 }
