@@ -31,7 +31,7 @@ fn short_lines_stand_for_their_lines(rt: HostRuntime) -> Result<(), Fail> {
         ),
         (
             b"H 3 12\n",
-            b"3 > 12 VERSION\t1\t1\n3 > 12 MECH\tPLAIN\tplaintext\n3 > 12 SPID\t1\n3 > 12 CUID\t12\n\
+            b"3 > 12 VERSION\t1\t2\n3 > 12 MECH\tPLAIN\tplaintext\n3 > 12 SPID\t1\n3 > 12 CUID\t12\n\
 3 > 12 COOKIE\t00000000000000000000000000000000\n3 > 12 DONE\n",
         ),
         (b"", b""),

@@ -12,11 +12,15 @@ mod lock_step;
 #[cfg(test)]
 mod pw;
 #[cfg(test)]
+mod tests_of_codes;
+#[cfg(test)]
 mod tests_of_connections;
 #[cfg(test)]
 mod tests_of_databases;
 #[cfg(test)]
 mod tests_of_delays;
+#[cfg(test)]
+mod tests_of_expired;
 #[cfg(test)]
 mod tests_of_handovers;
 #[cfg(test)]

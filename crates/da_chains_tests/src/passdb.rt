@@ -166,6 +166,7 @@ fn shown(alloc: Global, chain: &Chain) -> Result<Vec<u8>, AllocError> {
                 VerdictKind::Fail => b"fail ",
                 VerdictKind::Temp => b"temp ",
                 VerdictKind::Disabled => b"disabled ",
+                VerdictKind::Expired => b"expired ",
             })?;
             line.extend_from_slice(verdict.user.bytes())?;
             if verdict.authz {
@@ -274,7 +275,7 @@ fn checked(alloc: Global, stored: &[u8], plain: &[u8]) -> Result<Checked, AllocE
     Ok(Checked::new(stored, plain))
 }
 
-const CASES: [(Scene, &str, &str); 33] = [
+const CASES: [(Scene, &str, &str); 43] = [
     (Scene::Plain, "", "pass 1 alice"),
     (Scene::Plain, "I", "pass 2 alice"),
     (Scene::Plain, "I|U", "temp alice"),
@@ -285,9 +286,21 @@ const CASES: [(Scene, &str, &str); 33] = [
         "ok alice stored home=/h",
     ),
     (Scene::Plain, "F{PLAIN}no home=/h|U", "fail alice"),
+    (
+        Scene::Plain,
+        "F{PLAIN}pw expired",
+        "expired alice stored expired=",
+    ),
+    (
+        Scene::Plain,
+        "F{PLAIN}pw userdb_expired",
+        "ok alice stored userdb_expired=",
+    ),
+    (Scene::Plain, "F{PLAIN}no expired|U", "fail alice"),
     (Scene::Plain, "F{CRYPT}x|Fpw", "ok alice stored"),
     (Scene::Plain, "P|U", "temp alice"),
     (Scene::Deny, "F", "disabled alice"),
+    (Scene::Deny, "F expired", "disabled alice"),
     (Scene::Deny, "I", "temp alice"),
     (Scene::Deny, "U", "pass 2 alice"),
     (Scene::Master, "", "pass 1 root"),
@@ -299,7 +312,17 @@ const CASES: [(Scene, &str, &str); 33] = [
         "ok bob authz stored",
     ),
     (Scene::Master, "F{PLAIN}no", "fail bob"),
+    (
+        Scene::Master,
+        "F{PLAIN}pw expired|F{PLAIN}other",
+        "expired bob authz stored expired=",
+    ),
     (Scene::MasterReturns, "F{PLAIN}pw", "ok bob stored"),
+    (
+        Scene::MasterReturns,
+        "F{PLAIN}pw expired",
+        "expired bob stored expired=",
+    ),
     (
         Scene::ContinueOk,
         "F{PLAIN}pw quota=big mail=a|F{PLAIN}pw allow_nets=10.0.0.0/8 mail=b",
@@ -316,11 +339,27 @@ const CASES: [(Scene, &str, &str); 33] = [
     (Scene::Check, "U", "check 2 alice"),
     (Scene::Check, "U|P home=/h", "ok alice home=/h"),
     (Scene::Check, "U|P allow_nets=10.0.0.0/8", "fail alice"),
+    (Scene::Check, "U|P expired=no", "expired alice expired=no"),
     (Scene::Check, "U|M", "fail alice"),
     (Scene::Check, "F{PLAIN}pw", "fail alice stored"),
     (Scene::Filter, "", "pass 2 alice"),
     (Scene::ReturnFail, "F{PLAIN}pw|I", "temp alice stored"),
+    (
+        Scene::ReturnFail,
+        "F{PLAIN}pw expired|I",
+        "temp alice stored expired=",
+    ),
+    (
+        Scene::ReturnFail,
+        "F{PLAIN}pw expired|U",
+        "expired alice stored expired=",
+    ),
     (Scene::Cram, "F{PLAIN}pw", "ok alice stored"),
+    (
+        Scene::Cram,
+        "F{PLAIN}pw expired",
+        "expired alice stored expired=",
+    ),
     (
         Scene::Cram,
         "F{SHA}qZk+NkcGgWq6PiVxeFDCbJzQ2J0=|U",

@@ -65,6 +65,7 @@ fn a_client_is_not_told_what_is_for_the_service(rt: HostRuntime) -> Result<(), F
     put(&mut fields, alloc, b"userdb_home", b"/home/alice")?;
     put(&mut fields, alloc, b"allow_nets", b"10.0.0.0/8")?;
     put(&mut fields, alloc, b"nodelay", b"")?;
+    put(&mut fields, alloc, b"expired", b"yes")?;
     put(&mut fields, alloc, b"mail", b"a")?;
     put(&mut fields, alloc, b"userdb_uid", b"1000")?;
     assert_eq!(rt;

@@ -118,6 +118,7 @@ fn replies_have_their_fields_in_order(rt: HostRuntime) -> Result<(), Fail> {
         authz: true,
         temp: false,
         disabled: true,
+        code: None,
         reason: Some(text(alloc, b"")?),
     };
     assert_eq!(rt;
@@ -137,12 +138,70 @@ fn a_client_is_greeted_with_the_mechanisms(rt: HostRuntime) -> Result<(), Fail> 
         all.push(b'\n')?;
     }
     let wanted =
-        b"VERSION\t1\t1\nMECH\tPLAIN\tplaintext\nMECH\tCRAM-MD5\tdictionary\tactive\nMECH\tSCRAM-SHA-256\tmutual-auth\n\
+        b"VERSION\t1\t2\nMECH\tPLAIN\tplaintext\nMECH\tCRAM-MD5\tdictionary\tactive\nMECH\tSCRAM-SHA-256\tmutual-auth\n\
 SPID\t1\nCUID\t2\nCOOKIE\tc0c0c0c0c0c0c0c0c0c0c0c0c0c0c0c0\nDONE\n";
     assert_eq!(rt; all.as_slice(), wanted.as_slice());
     assert_eq!(rt;
         handshake(alloc, ConnKind::Master, &mechs, 1, 2, &[0; 16])?.len(),
         2
     );
+    Ok(())
+}
+
+#[test]
+fn a_master_is_greeted_with_a_lesser_minor_version(rt: HostRuntime) -> Result<(), Fail> {
+    let alloc = rt.alloc();
+    let mut all = Vec::new(alloc);
+    for line in handshake(alloc, ConnKind::Master, &[], 7, 2, &[0; 16])? {
+        all.extend_from_slice(line.bytes())?;
+        all.push(b'\n')?;
+    }
+    assert_eq!(rt; all.as_slice(), b"VERSION\t1\t1\nSPID\t7\n".as_slice());
+    Ok(())
+}
+
+#[test]
+fn a_failure_has_its_code_before_its_reason(rt: HostRuntime) -> Result<(), Fail> {
+    let alloc = rt.alloc();
+    let cases: [(Option<Code>, &[u8]); 8] = [
+        (Some(Code::Temp), b"FAIL\t9\tauthz\ttemp\tcode=temp\treason=why"),
+        (
+            Some(Code::Disabled),
+            b"FAIL\t9\tauthz\ttemp\tcode=disabled\treason=why",
+        ),
+        (
+            Some(Code::Expired),
+            b"FAIL\t9\tauthz\ttemp\tcode=expired\treason=why",
+        ),
+        (
+            Some(Code::Timeout),
+            b"FAIL\t9\tauthz\ttemp\tcode=timeout\treason=why",
+        ),
+        (
+            Some(Code::Protocol),
+            b"FAIL\t9\tauthz\ttemp\tcode=protocol\treason=why",
+        ),
+        (
+            Some(Code::Authz),
+            b"FAIL\t9\tauthz\ttemp\tcode=authz\treason=why",
+        ),
+        (
+            Some(Code::Credentials),
+            b"FAIL\t9\tauthz\ttemp\tcode=credentials\treason=why",
+        ),
+        (None, b"FAIL\t9\tauthz\ttemp\treason=why"),
+    ];
+    for (code, wanted) in cases {
+        let fail = Reply::Fail {
+            id: 9,
+            user: None,
+            authz: true,
+            temp: true,
+            disabled: false,
+            code,
+            reason: Some(text(alloc, b"why")?),
+        };
+        assert_eq!(rt; fail.print(alloc)?.as_slice(), wanted);
+    }
     Ok(())
 }
