@@ -164,7 +164,10 @@ fn a_master_is_greeted_with_a_lesser_minor_version(rt: HostRuntime) -> Result<()
 fn a_failure_has_its_code_before_its_reason(rt: HostRuntime) -> Result<(), Fail> {
     let alloc = rt.alloc();
     let cases: [(Option<Code>, &[u8]); 8] = [
-        (Some(Code::Temp), b"FAIL\t9\tauthz\ttemp\tcode=temp\treason=why"),
+        (
+            Some(Code::Temp),
+            b"FAIL\t9\tauthz\ttemp\tcode=temp\treason=why",
+        ),
         (
             Some(Code::Disabled),
             b"FAIL\t9\tauthz\ttemp\tcode=disabled\treason=why",
