@@ -21,8 +21,8 @@ abbrev pub server_keys : List Bytes
 server_keys =
     codes "server_pid" ∷ codes "host" ∷ codes "mechanisms" ∷ codes "username_chars" ∷ codes "username_lower"
     ∷ codes "master_separator" ∷ codes "failure_delay" ∷ codes "cache_size" ∷ codes "cache_ttl"
-    ∷ codes "cache_negative_ttl" ∷ codes "query_limit" ∷ codes "workers" ∷ codes "worker_command"
-    ∷ codes "client_socket" ∷ codes "master_socket" ∷ codes "history_entries" ∷ codes "history_bytes"
+    ∷ codes "cache_negative_ttl" ∷ codes "query_limit" ∷ codes "request_limit" ∷ codes "workers"
+    ∷ codes "worker_command" ∷ codes "client_socket" ∷ codes "master_socket" ∷ codes "history_entries" ∷ codes "history_bytes"
     ∷ codes "connections" ∷ codes "passdb" ∷ codes "userdb" ∷ []
 
 -- ---- names
@@ -79,13 +79,15 @@ spans_of part =
     number_of part (codes "cache_ttl") 0 86400000 3600000 >>= (λ cache_ttl.
     number_of part (codes "cache_negative_ttl") 0 86400000 3600000 >>= (λ cache_negative_ttl.
     number_of part (codes "query_limit") 1 600000 60000 >>= (λ query_limit.
+    number_of part (codes "request_limit") 1 600000 150000 >>= (λ request_limit.
     Ok (record {
       failure_delay = failure_delay;
       cache_size = cache_size;
       cache_ttl = cache_ttl;
       cache_negative_ttl = cache_negative_ttl;
       query_limit = query_limit;
-    }))))))
+      request_limit = request_limit;
+    })))))))
 
 pub record SpansFit (s : Durations) : Type 0 where
   pub failure_delay : s.failure_delay ≤ 60000
@@ -93,6 +95,7 @@ pub record SpansFit (s : Durations) : Type 0 where
   pub cache_ttl : s.cache_ttl ≤ 86400000
   pub cache_negative_ttl : s.cache_negative_ttl ≤ 86400000
   pub query_limit : (1 ≤ s.query_limit) × (s.query_limit ≤ 600000)
+  pub request_limit : (1 ≤ s.request_limit) × (s.request_limit ≤ 600000)
 
 -- ---- workers and sockets
 
@@ -173,6 +176,7 @@ settings_in part =
       cache_ttl = spans.cache_ttl;
       cache_negative_ttl = spans.cache_negative_ttl;
       query_limit = spans.query_limit;
+      request_limit = spans.request_limit;
       workers = workers.workers;
       worker_command = workers.worker_command;
       client_socket = workers.client_socket;

@@ -21,6 +21,7 @@ pub struct Durations {
     pub cache_ttl: u64,
     pub cache_negative_ttl: u64,
     pub query_limit: u64,
+    pub request_limit: u64,
 }
 
 /// The workers, and the sockets of clients and masters.

@@ -16,7 +16,7 @@ use da_fields::Text;
 use da_settings::{Settings, Texts};
 use std::alloc::Global;
 
-const KEYS: [&str; 20] = [
+const KEYS: [&str; 21] = [
     "server_pid",
     "host",
     "mechanisms",
@@ -28,6 +28,7 @@ const KEYS: [&str; 20] = [
     "cache_ttl",
     "cache_negative_ttl",
     "query_limit",
+    "request_limit",
     "workers",
     "worker_command",
     "client_socket",
@@ -143,6 +144,7 @@ fn spans(alloc: Global, part: &TomlTable<'_>) -> Result<Durations, ConfigFault>
         cache_ttl: part.number(alloc, "cache_ttl", 0, 86_400_000, 3_600_000)?,
         cache_negative_ttl: part.number(alloc, "cache_negative_ttl", 0, 86_400_000, 3_600_000)?,
         query_limit: part.number(alloc, "query_limit", 1, 600_000, 60_000)?,
+        request_limit: part.number(alloc, "request_limit", 1, 600_000, 150_000)?,
     })
 }
 
@@ -214,6 +216,7 @@ pub fn settings(alloc: Global, part: &TomlTable<'_>) -> Result<Settings, ConfigF
         cache_ttl: spans.cache_ttl,
         cache_negative_ttl: spans.cache_negative_ttl,
         query_limit: spans.query_limit,
+        request_limit: spans.request_limit,
         workers: workers.workers,
         worker_command: workers.worker_command,
         client_socket: workers.client_socket,

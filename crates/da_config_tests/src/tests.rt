@@ -50,6 +50,11 @@ const OF_KIND: &[Faulty] = &[
         FaultKind::Kind,
     ),
     ("query_limit = true", "query_limit", FaultKind::Kind),
+    (
+        "request_limit = \"150 s\"",
+        "request_limit",
+        FaultKind::Kind,
+    ),
     ("workers = \"2\"", "workers", FaultKind::Kind),
     ("worker_command = \"w\"", "worker_command", FaultKind::Kind),
     ("client_socket = 1", "client_socket", FaultKind::Kind),
@@ -102,6 +107,8 @@ const OF_RANGE: &[Faulty] = &[
     ),
     ("query_limit = 0", "query_limit", FaultKind::Range),
     ("query_limit = 600001", "query_limit", FaultKind::Range),
+    ("request_limit = 0", "request_limit", FaultKind::Range),
+    ("request_limit = 600001", "request_limit", FaultKind::Range),
     ("workers = 0", "workers", FaultKind::Range),
     ("workers = 65", "workers", FaultKind::Range),
     (
@@ -271,6 +278,16 @@ const OF_TWO: &[Faulty] = &[
     ("server_pid = -1\ncolour = 1", "colour", FaultKind::Unknown),
     ("host = 1\nserver_pid = -1", "server_pid", FaultKind::Range),
     (
+        "request_limit = 0\nquery_limit = 0",
+        "query_limit",
+        FaultKind::Range,
+    ),
+    (
+        "workers = 0\nrequest_limit = 0",
+        "request_limit",
+        FaultKind::Range,
+    ),
+    (
         "connections = 0\nworkers = \"\"",
         "workers",
         FaultKind::Kind,
@@ -317,6 +334,8 @@ const RIGHT: &[&str] = &[
     "cache_size = 100000\ncache_ttl = 86400000\ncache_negative_ttl = 0",
     "query_limit = 1",
     "query_limit = 600000",
+    "request_limit = 1",
+    "request_limit = 600000",
     "workers = 1",
     "workers = 64",
     "history_entries = 1\nhistory_bytes = 1\nconnections = 1",
@@ -339,6 +358,7 @@ cache_size = 1000\n\
 cache_ttl = 3_600_000\n\
 cache_negative_ttl = 60_000\n\
 query_limit = 60_000\n\
+request_limit = 150_000\n\
 workers = 4\n\
 worker_command = [\"bin/dauth\", \"worker\", \"examples/settings/every-key.toml\"]\n\
 client_socket = \"run/client.sock\"\n\

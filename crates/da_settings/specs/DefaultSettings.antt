@@ -46,6 +46,7 @@ default_settings failure_delay =
       cache_ttl = 3600000;
       cache_negative_ttl = 3600000;
       query_limit = 60000;
+      request_limit = 150000;
       workers = 2;
       worker_command = [];
       client_socket = codes "client.sock";

@@ -24,6 +24,7 @@ pub record SettingValues : Type 0 where
   pub cache_ttl : ℕ
   pub cache_negative_ttl : ℕ
   pub query_limit : ℕ
+  pub request_limit : ℕ
   pub workers : ℕ
   pub worker_command : List Bytes
   pub client_socket : Bytes
@@ -92,6 +93,7 @@ pub record AreInRange (s : SettingValues) : Type 0 where
   pub cache_ttl : s.cache_ttl ≤ 86400000
   pub cache_negative_ttl : s.cache_negative_ttl ≤ 86400000
   pub query_limit : (1 ≤ s.query_limit) × (s.query_limit ≤ 600000)
+  pub request_limit : (1 ≤ s.request_limit) × (s.request_limit ≤ 600000)
   pub workers : (1 ≤ s.workers) × (s.workers ≤ 64)
   pub worker_command : length s.worker_command ≤ 16
   pub history_entries : (1 ≤ s.history_entries) × (s.history_entries ≤ 500000)

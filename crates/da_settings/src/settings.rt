@@ -37,6 +37,8 @@ pub struct Settings {
     pub cache_negative_ttl: u64,
     /// How long a query may run, in milliseconds.
     pub query_limit: u64,
+    /// How long a client's request may go without a decision, in milliseconds.
+    pub request_limit: u64,
     /// How many workers there are.
     pub workers: u32,
     /// The program of a worker, and its arguments.
@@ -58,9 +60,9 @@ impl Model for Settings {
 
     ghost Value = { SettingValues };
 
-    ghost view = { λ s. record { server_pid = s.server_pid; host = s.host; mechanisms = s.mechanisms; username_chars = s.username_chars; username_lower = s.username_lower; master_separator = s.master_separator; failure_delay = s.failure_delay; cache_size = s.cache_size; cache_ttl = s.cache_ttl; cache_negative_ttl = s.cache_negative_ttl; query_limit = s.query_limit; workers = s.workers; worker_command = s.worker_command; client_socket = s.client_socket; master_socket = s.master_socket; history_entries = s.history_entries; history_bytes = s.history_bytes; connections = s.connections; passdb = s.passdb; userdb = s.userdb } };
+    ghost view = { λ s. record { server_pid = s.server_pid; host = s.host; mechanisms = s.mechanisms; username_chars = s.username_chars; username_lower = s.username_lower; master_separator = s.master_separator; failure_delay = s.failure_delay; cache_size = s.cache_size; cache_ttl = s.cache_ttl; cache_negative_ttl = s.cache_negative_ttl; query_limit = s.query_limit; request_limit = s.request_limit; workers = s.workers; worker_command = s.worker_command; client_socket = s.client_socket; master_socket = s.master_socket; history_entries = s.history_entries; history_bytes = s.history_bytes; connections = s.connections; passdb = s.passdb; userdb = s.userdb } };
 
-    ghost invariant = { λ s. AreInRange (record { server_pid = s.server_pid; host = s.host; mechanisms = s.mechanisms; username_chars = s.username_chars; username_lower = s.username_lower; master_separator = s.master_separator; failure_delay = s.failure_delay; cache_size = s.cache_size; cache_ttl = s.cache_ttl; cache_negative_ttl = s.cache_negative_ttl; query_limit = s.query_limit; workers = s.workers; worker_command = s.worker_command; client_socket = s.client_socket; master_socket = s.master_socket; history_entries = s.history_entries; history_bytes = s.history_bytes; connections = s.connections; passdb = s.passdb; userdb = s.userdb }) };
+    ghost invariant = { λ s. AreInRange (record { server_pid = s.server_pid; host = s.host; mechanisms = s.mechanisms; username_chars = s.username_chars; username_lower = s.username_lower; master_separator = s.master_separator; failure_delay = s.failure_delay; cache_size = s.cache_size; cache_ttl = s.cache_ttl; cache_negative_ttl = s.cache_negative_ttl; query_limit = s.query_limit; request_limit = s.request_limit; workers = s.workers; worker_command = s.worker_command; client_socket = s.client_socket; master_socket = s.master_socket; history_entries = s.history_entries; history_bytes = s.history_bytes; connections = s.connections; passdb = s.passdb; userdb = s.userdb }) };
 }
 
 impl Settings {
@@ -96,6 +98,7 @@ impl Settings {
             cache_ttl: self.cache_ttl,
             cache_negative_ttl: self.cache_negative_ttl,
             query_limit: self.query_limit,
+            request_limit: self.request_limit,
             workers: self.workers,
             worker_command: self.worker_command.copy(alloc)?,
             client_socket: self.client_socket.copy(alloc)?,
