@@ -7,7 +7,8 @@ use Rattle.da_play.specs.History.{tables_of}
 use Rattle.da_play.specs.Legal.{entry_moment}
 use Rattle.da_play.specs.Served.{Served}
 use Rattle.da_play.specs.declared.input.Entry.{Entry}
-use Rattle.da_request.specs.Requests.{is_due, is_held}
+use Rattle.da_request.specs.Requests.{has_limit, is_due, is_held, is_over_limit}
+use Rattle.da_request.specs.declared.request.Request.{Request}
 use Rattle.da_settings.specs.declared.settings.Settings.{Settings}
 use Rattle.da_tables.specs.Queries.{is_running}
 use Rattle.da_tables.specs.declared.queries.QueryRow.{QueryRow}
@@ -25,16 +26,24 @@ number_or_none (suc n) = Some (suc n)
 abbrev pub first_late : Settings → ℕ → List QueryRow → Option ℕ
 first_late settings moment queries = number_or_none (number_where (is_late settings moment) queries)
 
+-- an entry of this moment replies to the request, whatever its input: its reply is due, or its limit is reached
+abbrev pub is_told : Settings → ℕ → Request → Bool
+is_told settings moment r = is_due settings moment r || is_over_limit settings moment r
+
 abbrev pub due_in : Settings → ℕ → Tables → Due
-due_in settings moment tables = record { reply = list_any (is_due settings moment) tables.requests; query = first_late settings moment tables.queries }
+due_in settings moment tables = record { reply = list_any (is_told settings moment) tables.requests; query = first_late settings moment tables.queries }
 
 -- what is due at the moment that an entry would have if it were handed in at m
 abbrev pub due_at : Served → ℕ → Due
 due_at served m = due_in served.settings (entry_moment served.history m) (tables_of served.settings served.history)
 
-abbrev pub needs_clock_in : Tables → Bool
-needs_clock_in tables = list_any is_running tables.queries || list_any is_held tables.requests
+-- time alone replies to the request: its reply is held back, or its limit is still to come
+abbrev pub awaits_time : Request → Bool
+awaits_time r = is_held r || has_limit r
 
--- a query runs, or a reply is held back
+abbrev pub needs_clock_in : Tables → Bool
+needs_clock_in tables = list_any is_running tables.queries || list_any awaits_time tables.requests
+
+-- a query runs, a reply is held back, or a client's request isn't decided
 abbrev pub needs_clock : Settings → List Entry → Bool
 needs_clock settings h = needs_clock_in (tables_of settings h)

@@ -20,7 +20,7 @@ pub fn decisions_stand()
     ensures { DecisionsStand }
 {}
 
-/// A query without an answer is what its request asks, and that request is undecided, or was cancelled before.
+/// A query without an answer is what its request asks, and that request is undecided, or was cancelled or timed out before.
 pub fn open_queries_are_asked()
     ensures { OpenQueriesAreAsked }
 {}

@@ -6,7 +6,7 @@ use Rattle.da_fields.specs.declared.answer.Answer.{Answer}
 use Rattle.da_answers.specs.Hits.{with_hit}
 use Rattle.da_answers.specs.RecordedAnswers.{recorded_answer}
 use Rattle.da_play.specs.Comparing.{Compared, hint, known_answer, use_compares}
-use Rattle.da_play.specs.History.{after_input, tables_of}
+use Rattle.da_play.specs.History.{after_input, before_input, tables_of}
 use Rattle.da_play.specs.Legal.{entry_moment}
 use Rattle.da_play.specs.Play.{hits, refusal}
 use Rattle.da_play.specs.declared.input.Entry.{Entry}
@@ -17,7 +17,6 @@ use Rattle.da_request.specs.declared.request.Request.{Request}
 use Rattle.da_request.specs.declared.stages.Question.{Question}
 use Rattle.da_settings.specs.declared.settings.Settings.{Settings}
 use Rattle.da_tables.specs.Queries.{is_running}
-use Rattle.da_tables.specs.Tables.{with_due_replied}
 use Rattle.da_tables.specs.declared.queries.QueryRow.{QueryRow}
 use Rattle.da_tables.specs.declared.tables.Tables.{Tables}
 
@@ -82,7 +81,7 @@ uses_in_turn settings moment tables r (number ∷ numbers) =
 -- entry's own hits
 abbrev pub entry_uses : Settings → List Entry → ℕ → Input → List Compared
 entry_uses settings g moment input =
-    let before = with_due_replied settings moment (tables_of settings g) in
+    let before = before_input settings moment input (tables_of settings g) in
     let there = after_input settings moment input before in
     recorded_uses settings before input
     ++ option_or_else (option_and_then (nth there.tables.requests) there.continued) [] (λ r.

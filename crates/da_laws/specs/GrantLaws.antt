@@ -5,7 +5,7 @@ use Rattle.da_fields.specs.FieldList.{Pairs}
 use Rattle.da_msgs.specs.MasterMessages.{master_message}
 use Rattle.da_msgs.specs.declared.master.MasterMsg.TheVariants.{Request as MasterRequest}
 use Rattle.da_lines.specs.Grants.{granted}
-use Rattle.da_play.specs.History.{tables_of}
+use Rattle.da_play.specs.History.{before_input, tables_of}
 use Rattle.da_play.specs.declared.input.Entry.{Entry}
 use Rattle.da_play.specs.declared.input.Input.TheVariants.{Line}
 use Rattle.da_request.specs.Requests.{decision, is_granted_for}
@@ -15,7 +15,7 @@ use Rattle.da_request.specs.declared.request.Request.{Request}
 use Rattle.da_request.specs.declared.stages.Decision.TheVariants.{Success, UserGiven}
 use Rattle.da_settings.specs.declared.settings.Settings.{Settings}
 use Rattle.da_tables.specs.Connections.{is_used}
-use Rattle.da_tables.specs.Tables.{is_client, with_due_replied}
+use Rattle.da_tables.specs.Tables.{is_client}
 use Rattle.da_tables.specs.declared.connections.Connection.{Connection}
 use Rattle.da_tables.specs.declared.tables.Tables.{Tables}
 
@@ -62,7 +62,7 @@ pub record WasGranted (settings : Settings) (h : List Entry) (conn id : ℕ) (ra
   pub client : ℕ
   pub cookie : Bytes
   pub spells : master_message text ≡ Some (MasterRequest id pid client cookie)
-  pub is_granted : granted settings entry.moment (with_due_replied settings entry.moment (tables_of settings older)) pid client cookie ≡ Some grant
+  pub is_granted : granted settings entry.moment (before_input settings entry.moment entry.input (tables_of settings older)) pid client cookie ≡ Some grant
 
 -- a request that is given a user was granted by the entry that was its own REQUEST
 abbrev pub UserWasGranted : Type 0

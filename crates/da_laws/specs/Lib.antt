@@ -3,6 +3,7 @@ pub mod DelayLaws
 pub mod EndLaws
 pub mod GrantLaws
 pub mod HitLaws
+pub mod LimitLaws
 pub mod PlayLaws
 pub mod ReplyLaws
 pub mod StageLaws

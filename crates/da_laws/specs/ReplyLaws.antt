@@ -20,7 +20,7 @@ RepliesAtMostOnce = (settings : Settings) (h : List Entry) (n : ℕ) → count_w
 abbrev pub NothingDueIsLeft : Type 0
 NothingDueIsLeft = (settings : Settings) (e : Entry) (g : List Entry) → list_any (is_due settings e.moment) (tables_of settings (e ∷ g)).requests ≡ false
 
--- a final reply is one of a request that is decided by its stage, and whose reply is due
+-- a final reply is one of a request that is decided, by its stage or by its limit, and whose reply is due
 abbrev pub RepliesAreDue : Type 0
 RepliesAreDue =
     (settings : Settings) (e : Entry) (g : List Entry) (n : ℕ) →
@@ -28,7 +28,7 @@ RepliesAreDue =
     (r : Request) × (nth (tables_of settings (e ∷ g)).requests n ≡ Some r) × (is_some (decision settings r) ≡ true)
     × (r.replied ≡ Some e.moment) × (passes_option (λ due. nat_le due e.moment) (due_moment settings r) ≡ true)
 
--- what is decided by its stage is noted as decided, unless it is cancelled
+-- what is decided, by its stage or by its limit, is noted as decided, unless it is cancelled
 abbrev pub DecisionsAreNoted : Type 0
 DecisionsAreNoted =
     (settings : Settings) (h : List Entry) (n : ℕ) (r : Request) → nth (tables_of settings h).requests n ≡ Some r →

@@ -2,8 +2,8 @@
 
 ghost use Rattle.da_laws.specs.DelayLaws.{FailuresWait, NoneWaitsLonger, OthersAreToldAtOnce};
 
-/// A client is told of a failure no sooner than the delay after it was decided, unless an answer asks for no delay. No
-/// reply waits longer, and each other reply is given at once.
+/// A client is told of a failure no sooner than the delay after it was decided, unless an answer asks for no delay or its
+/// request was timed out. No reply waits longer, and each other reply is given at once.
 pub fn failures_alone_wait()
     ensures failures { FailuresWait }
     ensures no_longer { NoneWaitsLonger }

@@ -75,12 +75,12 @@ pub fn grants_stand()
     ensures { GrantsStand }
 {}
 
-/// A final reply is one of a request that is decided by its stage, and whose reply is due, never before.
+/// A final reply is one of a request that is decided, by its stage or by its limit, and whose reply is due, never before.
 pub fn replies_are_due()
     ensures { RepliesAreDue }
 {}
 
-/// What its stage decides is noted as decided, unless it is cancelled.
+/// What a request's stage or its limit decides is noted as decided, unless it is cancelled.
 pub fn decisions_are_noted()
     ensures { DecisionsAreNoted }
 {}

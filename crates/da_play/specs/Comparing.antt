@@ -7,7 +7,7 @@ use Rattle.da_schemes.specs.Stored.{StoredPassword}
 use Rattle.da_fields.specs.declared.answer.Answer.{Answer}
 use Rattle.da_answers.specs.Hits.{database_count, hit_for, newest, with_hit}
 use Rattle.da_answers.specs.RecordedAnswers.{key_of, recorded_answer, ttl_of}
-use Rattle.da_play.specs.History.{after_input, tables_of}
+use Rattle.da_play.specs.History.{after_input, before_input, tables_of}
 use Rattle.da_play.specs.Legal.{entry_moment}
 use Rattle.da_play.specs.Play.{refusal}
 use Rattle.da_play.specs.declared.input.Entry.{Entry}
@@ -18,7 +18,7 @@ use Rattle.da_request.specs.declared.request.Request.{Request}
 use Rattle.da_request.specs.declared.stages.Question.{Question}
 use Rattle.da_settings.specs.declared.settings.Settings.{Settings}
 use Rattle.da_tables.specs.Queries.{is_running}
-use Rattle.da_tables.specs.Tables.{AfterInput, with_due_replied}
+use Rattle.da_tables.specs.Tables.{AfterInput}
 use Rattle.da_tables.specs.declared.queries.QueryRow.{QueryRow}
 use Rattle.da_tables.specs.declared.tables.Tables.{Tables}
 
@@ -78,7 +78,7 @@ compares_after settings moment tables h =
 -- what an entry compares: of the answer that it records, else of the newest answers that its continued request asks for
 unfoldable pub entry_compares : Settings → List Entry → ℕ → Input → Option Compared
 entry_compares settings g moment input =
-    let before = with_due_replied settings moment (tables_of settings g) in
+    let before = before_input settings moment input (tables_of settings g) in
     first_of_two (own_compares settings before input) (compares_after settings moment (tables_of settings g) (after_input settings moment input before))
 
 -- what the entry compares that an input handed in at m would make, where it isn't refused

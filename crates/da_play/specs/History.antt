@@ -16,9 +16,24 @@ use Rattle.da_request.specs.declared.stages.Stage.{Stage}
 use Rattle.da_request.specs.declared.stages.Stage.TheVariants.{Asks, Awaits, Decided}
 use Rattle.da_settings.specs.declared.settings.Settings.{Settings}
 use Rattle.da_tables.specs.Queries.{as_taken, first_waiting, is_running_in, with_new_query}
-use Rattle.da_tables.specs.Tables.{AfterInput, at_start, closing, continuing_none, with_due_replied, with_end, with_query, with_request}
+use Rattle.da_tables.specs.Tables.{AfterInput, at_start, closing, continuing_none, with_due_replied, with_end, with_query, with_request, with_timed_out}
 use Rattle.da_tables.specs.declared.queries.QueryRow.{QueryRow}
 use Rattle.da_tables.specs.declared.tables.Tables.{Tables}
+
+-- ---- part one: a query is handed out, the limits that are reached time requests out, and the replies that are due are given
+
+-- a Take hands out the first query that waited before its entry, also where the entry times that query's request out
+abbrev pub with_handed_out : ℕ → Input → Tables → Tables
+with_handed_out moment Take tables = with_query (as_taken moment) (first_waiting tables) tables
+with_handed_out moment _ tables = tables
+
+-- the tables in which it is seen which replies are due
+abbrev pub before_replies : Settings → ℕ → Input → Tables → Tables
+before_replies settings moment input tables = with_timed_out settings moment (with_handed_out moment input tables)
+
+-- the tables in which an input has its own effect
+unfoldable pub before_input : Settings → ℕ → Input → Tables → Tables
+before_input settings moment input tables = with_due_replied settings moment (before_replies settings moment input tables)
 
 -- ---- part two: the input has its own effect
 
@@ -28,7 +43,7 @@ after_input settings moment (Opened kind random) tables =
 after_input settings moment (Line conn text random) tables = line_on settings moment conn text random (nth tables.connections conn) tables
 after_input settings moment (Broken conn) tables = closing conn tables
 after_input settings moment (Gone conn) tables = continuing_none (with_end conn tables)
-after_input settings moment Take tables = continuing_none (with_query (as_taken moment) (first_waiting tables) tables)
+after_input settings moment Take tables = continuing_none tables
 after_input settings moment (Answered query answer) tables = after_answer settings moment query answer (nth tables.queries query) tables
 after_input settings moment (Late query) tables = after_answer settings moment query (Internal WasLate) (nth tables.queries query) tables
 after_input settings moment Tick tables = continuing_none tables
@@ -72,7 +87,7 @@ is_answer_recorded before _ = false
 -- the tables after one more entry
 unfoldable pub after : Settings → Tables → Entry → Tables
 after settings tables e =
-    let before = with_due_replied settings e.moment tables in
+    let before = before_input settings e.moment e.input tables in
     keeps settings before e.input (after_continued settings e.moment e.hits (after_input settings e.moment e.input before))
 
 -- the tables at the end of a history

@@ -7,7 +7,7 @@ use Rattle.da_fields.specs.declared.answer.Answer.{Answer}
 use Rattle.da_fields.specs.declared.answer.Answer.TheVariants.{Found, Passed}
 use Rattle.da_answers.specs.Hits.{AreHits}
 use Rattle.da_play.specs.Effects.{entry_lines}
-use Rattle.da_play.specs.History.{after_input, tables_of}
+use Rattle.da_play.specs.History.{after_input, before_input, tables_of}
 use Rattle.da_play.specs.declared.input.Entry.{Entry}
 use Rattle.da_play.specs.declared.input.Input.{Input}
 use Rattle.da_play.specs.declared.input.Input.TheVariants.{Answered, Broken, Gone, Late, Line, Opened, Take, Tick}
@@ -16,7 +16,7 @@ use Rattle.da_settings.specs.declared.settings.Goal.{Goal}
 use Rattle.da_settings.specs.declared.settings.Settings.{Settings}
 use Rattle.da_tables.specs.Connections.{open_count}
 use Rattle.da_tables.specs.Queries.{first_waiting, is_running_in}
-use Rattle.da_tables.specs.Tables.{is_client, is_open_in, with_due_replied}
+use Rattle.da_tables.specs.Tables.{is_client, is_open_in}
 use Rattle.da_tables.specs.declared.connections.Connection.{Connection}
 use Rattle.da_tables.specs.declared.tables.Tables.{Tables}
 
@@ -91,7 +91,7 @@ ContinuedHits settings moment tables (Some r) ns = AreHits settings moment table
 -- these are the hits of an entry after a history: those of the request that its input moves
 abbrev pub EntryHits : Settings → List Entry → ℕ → Input → List ℕ → Type 0
 EntryHits settings g moment input ns =
-    let h = after_input settings moment input (with_due_replied settings moment (tables_of settings g)) in
+    let h = after_input settings moment input (before_input settings moment input (tables_of settings g)) in
     ContinuedHits settings moment (tables_of settings g) (option_and_then (nth h.tables.requests) h.continued) ns
 
 -- the entry may follow this history

@@ -3,7 +3,7 @@ use Rattle.std.specs.Prelude.{ℕ, suc, Bool, List, [], ◌∷◌, length, Optio
 use Rattle.da_base.specs.Words.{nth, option_or_else}
 use Rattle.da_answers.specs.Hits.{database_count, hits_from}
 use Rattle.da_play.specs.Effects.{due_lines, effects, own_lines}
-use Rattle.da_play.specs.History.{after, after_input, tables_of}
+use Rattle.da_play.specs.History.{after, after_input, before_input, tables_of}
 use Rattle.da_play.specs.Legal.{entry_moment, is_full, late_from}
 use Rattle.da_play.specs.declared.effects.Effects.{Effects}
 use Rattle.da_play.specs.declared.input.Entry.{Entry}
@@ -15,7 +15,7 @@ use Rattle.da_play.specs.declared.outputs.Refused.TheVariants.{ConnLimit, Histor
 use Rattle.da_settings.specs.declared.settings.Settings.{Settings}
 use Rattle.da_tables.specs.Connections.{open_count}
 use Rattle.da_tables.specs.Queries.{first_waiting, is_running_in, query_with}
-use Rattle.da_tables.specs.Tables.{AfterInput, is_open_in, with_due_replied}
+use Rattle.da_tables.specs.Tables.{AfterInput, is_open_in}
 use Rattle.da_tables.specs.declared.tables.Tables.{Tables}
 
 -- ---- refusals
@@ -50,7 +50,7 @@ hits_for settings moment tables h =
 
 -- the hits of an entry after a history
 unfoldable pub hits : Settings → List Entry → ℕ → Input → List ℕ
-hits settings g moment input = hits_for settings moment (tables_of settings g) (after_input settings moment input (with_due_replied settings moment (tables_of settings g)))
+hits settings g moment input = hits_for settings moment (tables_of settings g) (after_input settings moment input (before_input settings moment input (tables_of settings g)))
 
 -- the entry that an input makes, handed in at m
 unfoldable pub next_entry : Settings → List Entry → ℕ → Input → Entry

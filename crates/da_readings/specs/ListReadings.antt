@@ -8,7 +8,7 @@ use Rattle.da_msgs.specs.declared.client.ClientMsg.{ClientMsg}
 use Rattle.da_msgs.specs.declared.client.ClientMsg.TheVariants.{Cont}
 use Rattle.da_answers.specs.Hits.{hit_comparison}
 use Rattle.da_answers.specs.RecordedAnswers.{answer_under, is_kept, recorded_answer}
-use Rattle.da_play.specs.History.{after_input, tables_of}
+use Rattle.da_play.specs.History.{after_input, before_input, tables_of}
 use Rattle.da_play.specs.Legal.{IsLegal}
 use Rattle.da_play.specs.declared.input.Entry.{Entry}
 use Rattle.da_play.specs.declared.input.Input.{Input}
@@ -20,14 +20,14 @@ use Rattle.da_request.specs.declared.request.Request.{Request}
 use Rattle.da_request.specs.declared.stages.Question.{Question}
 use Rattle.da_settings.specs.declared.settings.Settings.{Settings}
 use Rattle.da_tables.specs.Queries.{is_running}
-use Rattle.da_tables.specs.Tables.{is_client, with_due_replied}
+use Rattle.da_tables.specs.Tables.{is_client}
 use Rattle.da_tables.specs.declared.connections.Connection.{Connection}
 use Rattle.da_tables.specs.declared.queries.QueryRow.{QueryRow}
 
 -- ---- the request that an entry continues
 
 abbrev pub continued : Settings → List Entry → Entry → Option ℕ
-continued settings g e = (after_input settings e.moment e.input (with_due_replied settings e.moment (tables_of settings g))).continued
+continued settings g e = (after_input settings e.moment e.input (before_input settings e.moment e.input (tables_of settings g))).continued
 
 -- these, where it is request n that continues
 abbrev pub if_continued : {A : Type 0} → Option ℕ → ℕ → List A → List A
@@ -106,7 +106,7 @@ CacheableAreRead = (settings : Settings) (h : List Entry) → (tables_of setting
 -- the request that an entry continues, with what its input told
 abbrev pub continued_request : Settings → List Entry → Entry → Option Request
 continued_request settings g e =
-    option_and_then (nth (after_input settings e.moment e.input (with_due_replied settings e.moment (tables_of settings g))).tables.requests) (continued settings g e)
+    option_and_then (nth (after_input settings e.moment e.input (before_input settings e.moment e.input (tables_of settings g))).tables.requests) (continued settings g e)
 
 abbrev pub use_by : Settings → Option Request → Question → Answer → Option Bool
 use_by settings None q answer = None
@@ -141,7 +141,7 @@ abbrev pub uses_read : Settings → List Entry → ℕ → List Bool
 uses_read settings [] k = []
 uses_read settings (e ∷ g) k =
     option_or_else (continued_request settings g e) [] (λ r. hit_comparisons settings (tables_of settings g).queries r e.hits k)
-    ++ (option_or_else (told_query e.input) [] (own_comparisons settings (with_due_replied settings e.moment (tables_of settings g)).requests (tables_of settings g).queries (tables_of settings (e ∷ g)).queries k)
+    ++ (option_or_else (told_query e.input) [] (own_comparisons settings (before_input settings e.moment e.input (tables_of settings g)).requests (tables_of settings g).queries (tables_of settings (e ∷ g)).queries k)
     ++ uses_read settings g k)
 
 -- in a legal history the tests of an answer are those of its own use and of the hits, the last first

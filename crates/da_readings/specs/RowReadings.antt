@@ -8,7 +8,7 @@ use Rattle.da_play.specs.Effects.{effects}
 use Rattle.da_play.specs.History.{Tells, tables_of}
 use Rattle.da_play.specs.declared.input.Entry.{Entry}
 use Rattle.da_play.specs.declared.input.Input.TheVariants.{Take}
-use Rattle.da_request.specs.Requests.{decision}
+use Rattle.da_request.specs.Requests.{decision, is_over_limit}
 use Rattle.da_request.specs.declared.request.Request.{Request}
 use Rattle.da_settings.specs.declared.settings.Settings.{Settings}
 use Rattle.da_tables.specs.Queries.{is_running_in, is_waiting, running, waiting}
@@ -23,7 +23,7 @@ pub record Among (h : List Entry) (entry : Entry) (older : List Entry) : Type 0 
 
 -- ---- requests
 
--- the first entry after which the stage of a request is decided
+-- the first entry after which a request is decided, by its stage or by its limit
 pub record WasDecided (settings : Settings) (h : List Entry) (n moment : ℕ) : Type 0 where
   pub entry : Entry
   pub older : List Entry
@@ -34,10 +34,29 @@ pub record WasDecided (settings : Settings) (h : List Entry) (n moment : ℕ) : 
   pub is_there : nth (tables_of settings (entry ∷ older)).requests n ≡ Some request
   pub is_decided : is_some (decision settings request) ≡ true
 
--- the moment at which a request was decided is that of the first entry after which its stage is decided
+-- the moment at which a request was decided is that of the first entry after which it is decided
 abbrev pub DecidedIsFirst : Type 0
 DecidedIsFirst =
     (settings : Settings) (h : List Entry) (n m : ℕ) (r : Request) → nth (tables_of settings h).requests n ≡ Some r → r.decided ≡ Some m → WasDecided settings h n m
+
+-- the entry that timed a request out: it found a client's request undecided, and its limit reached
+pub record WasTimedOut (settings : Settings) (h : List Entry) (n : ℕ) (r : Request) : Type 0 where
+  pub entry : Entry
+  pub older : List Entry
+  pub among : Among h entry older
+  pub before : Request
+  pub is_there : nth (tables_of settings older).requests n ≡ Some before
+  pub was_over : is_over_limit settings entry.moment before ≡ true
+  pub is_decided : r.decided ≡ Some entry.moment
+  pub is_replied : r.replied ≡ Some entry.moment
+
+-- a request is timed out exactly where an entry found it undecided, and its limit reached
+pub record TimedOutIsOver (settings : Settings) : Type 0 where
+  pub by_entry : (h : List Entry) (n : ℕ) (r : Request) → nth (tables_of settings h).requests n ≡ Some r → r.is_timed_out ≡ true → WasTimedOut settings h n r
+  pub of_entry : (h : List Entry) (n : ℕ) (r : Request) → nth (tables_of settings h).requests n ≡ Some r → WasTimedOut settings h n r → r.is_timed_out ≡ true
+
+abbrev pub TimedOutIsRead : Type 0
+TimedOutIsRead = (settings : Settings) → TimedOutIsOver settings
 
 -- the entry that replied to a request: none did so before it, nor was it cancelled before
 pub record WasReplied (settings : Settings) (h : List Entry) (n moment : ℕ) : Type 0 where

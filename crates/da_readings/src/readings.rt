@@ -1,16 +1,23 @@
 // The tables read as sentences on the history: each law is a contract, and its function does nothing.
 
 ghost use Rattle.da_readings.specs.ListReadings.{TextsAreRead, CacheableAreRead, AnswersAreRead, ComparisonsAreRead};
-ghost use Rattle.da_readings.specs.RowReadings.{QueriesAreRead, DecidedIsFirst, RepliedIsFirst, ConnectionsAreRead};
+ghost use Rattle.da_readings.specs.RowReadings.{QueriesAreRead, DecidedIsFirst, TimedOutIsRead, RepliedIsFirst, ConnectionsAreRead};
 
 /// A query was taken exactly where a Take handed it out, and has an answer exactly where an entry gave it one or told that it is late.
 pub fn queries_are_read()
     ensures { QueriesAreRead }
 {}
 
-/// The moment at which a request was decided is that of the first entry after which its stage is decided.
+/// The moment at which a request was decided is that of the first entry after which it is decided, by its stage or by its
+/// limit.
 pub fn decided_is_first()
     ensures { DecidedIsFirst }
+{}
+
+/// A request is timed out exactly where an entry found it a client's, undecided, and its limit reached; that entry decided
+/// it and replied to it.
+pub fn timed_out_is_read()
+    ensures { TimedOutIsRead }
 {}
 
 /// The moment at which a request was replied is that of an entry that found it neither replied nor cancelled.

@@ -86,8 +86,13 @@ abbrev pub challenge_in : Stage → Option Bytes
 challenge_in (Awaits text) = Some text
 challenge_in _ = None
 
+-- what a request is told whose limit came before a decision: its user is the login's, where what was said gives one
+abbrev pub timed_failure : Settings → Request → Decision
+timed_failure settings r = Failure (option_map (λ l. l.user) (login_of settings r)) false false false (Some (codes "Timed out"))
+
+-- the decision: that of the limit for a request that is timed out, and else that of a decided stage
 unfoldable pub decision : Settings → Request → Option Decision
-decision settings r = decision_in (request_stage settings r)
+decision settings r = if r.is_timed_out then Some (timed_failure settings r) else decision_in (request_stage settings r)
 
 -- ---- when a reply is due
 
@@ -108,9 +113,17 @@ unfoldable pub reply_delay : Settings → Request → ℕ
 reply_delay settings r =
     if passes_option is_failure (decision settings r) && not (has_nodelay r.answers) then settings.failure_delay else 0
 
+-- the moment from which a client's request that isn't decided is timed out
+abbrev pub limit_moment : Settings → Request → ℕ
+limit_moment settings r = later r.start settings.request_limit
+
+-- when the reply to a request is due that was decided at this moment: a request that is timed out isn't delayed further
+abbrev pub due_from : Settings → Request → ℕ → ℕ
+due_from settings r decided = if r.is_timed_out then limit_moment settings r else later decided (reply_delay settings r)
+
 -- the moment at which the final reply is due
 abbrev pub due_moment : Settings → Request → Option ℕ
-due_moment settings r = option_map (λ m. later m (reply_delay settings r)) r.decided
+due_moment settings r = option_map (due_from settings r) r.decided
 
 -- decided, not cancelled and not replied
 abbrev pub is_held : Request → Bool
@@ -131,6 +144,18 @@ is_undecided r = is_pending r && not (is_some r.decided)
 abbrev pub is_authentication : Body → Bool
 is_authentication (Authenticates mech params resp texts) = true
 is_authentication (LooksUp grant) = false
+
+-- its limit is still to come: a client's request that isn't decided. A master's request has none.
+abbrev pub has_limit : Request → Bool
+has_limit r = is_authentication r.body && is_undecided r
+
+-- its limit is reached at this moment
+unfoldable pub is_over_limit : Settings → ℕ → Request → Bool
+is_over_limit settings moment r = has_limit r && nat_le (limit_moment settings r) moment
+
+-- its queries may be handed out: it is neither cancelled nor timed out
+abbrev pub is_wanted : Request → Bool
+is_wanted r = not r.is_cancelled && not r.is_timed_out
 
 -- a lookup that was granted for the request of this number
 abbrev pub is_granted_for : ℕ → Body → Bool
@@ -171,7 +196,7 @@ lookup_with _ _ = None
 
 abbrev pub new_request : ℕ → ℕ → ℕ → Bytes → Body → Request
 new_request moment conn id random body =
-    record { conn = conn; id = id; random = random; start = moment; body = body; answers = []; is_cancelled = false; decided = None; replied = None }
+    record { conn = conn; id = id; random = random; start = moment; body = body; answers = []; is_cancelled = false; is_timed_out = false; decided = None; replied = None }
 
 abbrev pub body_with_text : Bytes → Body → Body
 body_with_text text (Authenticates mech params resp texts) = Authenticates mech params resp (texts ++ text ∷ [])
@@ -199,9 +224,16 @@ use_comparison settings r q answer =
 abbrev pub with_answer : ℕ → Answer → Request → Request
 with_answer db answer r = record r { answers = r.answers ++ (db, answer) ∷ [] }
 
--- a request that was cancelled before it was decided has its late answer too
+-- a request that was cancelled or timed out before its stage was decided has its late answer too
 abbrev pub with_late_answer : ℕ → Answer → Request → Request
-with_late_answer db answer r = if is_some r.decided then r else with_answer db answer r
+with_late_answer db answer r = if is_some r.decided && not r.is_timed_out then r else with_answer db answer r
+
+-- its limit came before a decision, and so decides it now
+abbrev pub timed_out : ℕ → Request → Request
+timed_out moment r = record r { is_timed_out = true; decided = Some moment }
+
+abbrev pub timed_out_if_over : Settings → ℕ → Request → Request
+timed_out_if_over settings moment r = if is_over_limit settings moment r then timed_out moment r else r
 
 abbrev pub replied : ℕ → Request → Request
 replied moment r = record r { replied = Some moment }

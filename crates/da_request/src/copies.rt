@@ -78,6 +78,7 @@ impl Request {
             body: self.body.copy(alloc)?,
             answers: self.answers.copy(alloc)?,
             is_cancelled: self.is_cancelled,
+            is_timed_out: self.is_timed_out,
             decided: self.decided,
             replied: self.replied,
         })

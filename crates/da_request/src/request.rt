@@ -44,6 +44,8 @@ pub struct Request {
     /// The answers of its own queries and its hits, each under its database.
     pub answers: Answers,
     pub is_cancelled: bool,
+    /// Its limit came before a decision, and so decided it.
+    pub is_timed_out: bool,
     /// The moment at which it was decided, and the one at which it was replied.
     pub decided: Option<u64>,
     pub replied: Option<u64>,
@@ -167,6 +169,7 @@ pub fn new_request(
             items: Vec::new(alloc),
         },
         is_cancelled: false,
+        is_timed_out: false,
         decided: None,
         replied: None,
     }

@@ -4,6 +4,7 @@ pub mod RunsOfDatabases
 pub mod RunsOfDelays
 pub mod RunsOfHandovers
 pub mod RunsOfLateAnswers
+pub mod RunsOfLimits
 pub mod RunsOfLogins
 pub mod RunsOfMasterLogins
 pub mod RunsOfScram

@@ -8,6 +8,7 @@ ghost use Rattle.da_runs.specs.RunsOfDatabases.{two_databases, failed_then_unkno
 ghost use Rattle.da_runs.specs.RunsOfDelays.{two_seconds, told_in_time, told_in_time_replies, cancelled_in_time, cancelled_in_time_replies, cancelled_too_late, cancelled_too_late_replies, not_delayed, not_delayed_replies, told_together, told_together_replies};
 ghost use Rattle.da_runs.specs.RunsOfHandovers.{with_users, handed_over, handed_over_replies, asked_too_late, asked_too_late_replies, cancelled_login, ended_client, nothing_to_hand_over_replies};
 ghost use Rattle.da_runs.specs.RunsOfLateAnswers.{given_up, given_up_replies, cancelled_before, cancelled_before_replies};
+ghost use Rattle.da_runs.specs.RunsOfLimits.{limit_reached, limit_reached_replies, cancelled_before_limit, cancelled_before_limit_replies, cancelled_at_limit, cancelled_at_limit_replies, taken_at_limit, taken_at_limit_replies, nothing_left, nothing_left_replies, late_at_limit, late_at_limit_replies, goes_on_by_login, goes_on_by_login_replies, said_at_limit, said_at_limit_replies, short_limit, by_moment, by_moment_replies, with_cache, answered_at_limit, answered_at_limit_replies, used_after_limit, used_after_limit_replies, at_the_end, at_the_end_replies};
 ghost use Rattle.da_runs.specs.RunsOfLogins.{right_login, right_login_replies, login_settings, name_and_password, name_and_password_replies};
 ghost use Rattle.da_runs.specs.RunsOfMasterLogins.{with_masters, bob_is_unknown, bob_is_unknown_replies, bob_is_there, bob_is_there_replies};
 ghost use Rattle.da_runs.specs.RunsOfScram.{scram_settings, keys_told, keys_told_replies, digest_told, digest_told_replies};
@@ -98,4 +99,30 @@ pub fn logins_are_handed_over_once()
 pub fn scram_goes_on_with_keys()
     ensures keys { play scram_settings [] keys_told ≡ keys_told_replies }
     ensures digest { play scram_settings [] digest_told ≡ digest_told_replies }
+{}
+
+/// A login that isn't decided at its limit fails then, at once and by the first entry that comes, whatever that is: an
+/// answer, a cancel, a worker that takes its query or one that is late. Replies that are due go out in the order of their
+/// moments.
+pub fn logins_are_timed_out()
+    ensures reached { play (default_settings 0) [] limit_reached ≡ limit_reached_replies }
+    ensures cancelled_before { play (default_settings 0) [] cancelled_before_limit ≡ cancelled_before_limit_replies }
+    ensures cancelled_at { play (default_settings 0) [] cancelled_at_limit ≡ cancelled_at_limit_replies }
+    ensures taken { play (default_settings 0) [] taken_at_limit ≡ taken_at_limit_replies }
+    ensures left { play (default_settings 0) [] nothing_left ≡ nothing_left_replies }
+    ensures late { play (default_settings 0) [] late_at_limit ≡ late_at_limit_replies }
+    ensures order { play short_limit [] by_moment ≡ by_moment_replies }
+    ensures last { play (default_settings 0) [] at_the_end ≡ at_the_end_replies }
+{}
+
+/// A message at the limit isn't heard, and one before it doesn't renew the limit.
+pub fn messages_renew_no_limit()
+    ensures at_limit { play (default_settings 0) [] said_at_limit ≡ said_at_limit_replies }
+    ensures before { play login_settings [] goes_on_by_login ≡ goes_on_by_login_replies }
+{}
+
+/// The answer to a login that was timed out is used again, and so is what it found of that login's password.
+pub fn answers_outlive_their_logins()
+    ensures cached { play with_cache [] answered_at_limit ≡ answered_at_limit_replies }
+    ensures compared { play with_cache [] used_after_limit ≡ used_after_limit_replies }
 {}

@@ -1,8 +1,8 @@
 -- What of each row of the tables stays as it is.
-use Rattle.std.specs.Prelude.{◌≡◌, ℕ, true, Some, is_some}
+use Rattle.std.specs.Prelude.{◌≡◌, ℕ, true, false, Some, is_some}
 use Rattle.da_base.specs.Words.{nth}
 use Rattle.da_fields.specs.declared.answer.Answer.{Answer}
-use Rattle.da_request.specs.Requests.{is_granted_for}
+use Rattle.da_request.specs.Requests.{is_authentication, is_granted_for}
 use Rattle.da_request.specs.declared.request.Request.{Request}
 use Rattle.da_tables.specs.declared.connections.Connection.{Connection}
 use Rattle.da_tables.specs.declared.queries.QueryRow.{QueryRow}
@@ -14,19 +14,21 @@ pub record ConnectionStands (c d : Connection) : Type 0 where
   pub cookie : d.cookie ≡ c.cookie
   pub is_ended : d.is_open ≡ true → c.is_open ≡ true
 
--- a request keeps its connection, its id and its grant; what is cancelled, decided or replied stays so, and what was
--- decided stays the decision
+-- a request keeps its connection, its id, whether it is a client's, and its grant; what is cancelled, decided or replied stays so, and what was
+-- decided stays the decision: by its limit, or by what was said and answered
 pub record RequestStands (r s : Request) : Type 0 where
   pub conn : s.conn ≡ r.conn
   pub id : s.id ≡ r.id
   pub random : s.random ≡ r.random
   pub start : s.start ≡ r.start
+  pub is_client : is_authentication s.body ≡ is_authentication r.body
   pub grant : (n : ℕ) → is_granted_for n s.body ≡ is_granted_for n r.body
   pub cancelled : r.is_cancelled ≡ true → s.is_cancelled ≡ true
   pub decided : (m : ℕ) → r.decided ≡ Some m → s.decided ≡ Some m
   pub replied : (m : ℕ) → r.replied ≡ Some m → s.replied ≡ Some m
   pub body : is_some r.decided ≡ true → s.body ≡ r.body
-  pub answers : is_some r.decided ≡ true → s.answers ≡ r.answers
+  pub timed_out : is_some r.decided ≡ true → s.is_timed_out ≡ r.is_timed_out
+  pub answers : is_some r.decided ≡ true → r.is_timed_out ≡ false → s.answers ≡ r.answers
 
 -- a query keeps its request, its question and its password; what was taken or answered stays so
 pub record QueryStands (a b : QueryRow) : Type 0 where

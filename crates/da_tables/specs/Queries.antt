@@ -2,16 +2,16 @@
 use Rattle.std.specs.Prelude.{ℕ, Bool, ◌&&◌, not, List, [], ◌∷◌, ◌++◌, Option, Some, None, is_some, ◌+◌}
 use Rattle.da_base.specs.Words.{nth, passes_option, number_where, numbers_where}
 use Rattle.da_fields.specs.declared.answer.Query.{Query}
-use Rattle.da_request.specs.Requests.{query_password}
+use Rattle.da_request.specs.Requests.{is_wanted, query_password}
 use Rattle.da_request.specs.declared.request.Request.{Request}
 use Rattle.da_request.specs.declared.stages.Question.{Question}
 use Rattle.da_settings.specs.declared.settings.Settings.{Settings}
 use Rattle.da_tables.specs.declared.queries.QueryRow.{QueryRow}
 use Rattle.da_tables.specs.declared.tables.Tables.{Tables}
 
--- it waits until it is taken or its request is cancelled
+-- it waits until it is taken or its request is cancelled or timed out
 abbrev pub is_waiting : Tables → QueryRow → Bool
-is_waiting tables a = not (is_some a.taken) && not (is_some a.answer) && passes_option (λ r. not r.is_cancelled) (nth tables.requests a.request)
+is_waiting tables a = not (is_some a.taken) && not (is_some a.answer) && passes_option is_wanted (nth tables.requests a.request)
 
 -- it runs from its Take until its answer
 abbrev pub is_running : QueryRow → Bool

@@ -3,7 +3,7 @@ use Rattle.std.specs.Prelude.{ℕ, Bool, true, false, [], ◌∷◌, ◌++◌, s
 use Rattle.da_base.specs.Words.{nth, changed_nth, passes_option}
 use Rattle.da_msgs.specs.declared.kinds.ConnKind.{ConnKind}
 use Rattle.da_msgs.specs.declared.kinds.ConnKind.TheVariants.{Client, Master}
-use Rattle.da_request.specs.Requests.{as_cancelled_of, replied_if_due}
+use Rattle.da_request.specs.Requests.{as_cancelled_of, replied_if_due, timed_out_if_over}
 use Rattle.da_request.specs.declared.request.Request.{Request}
 use Rattle.da_settings.specs.declared.settings.Settings.{Settings}
 use Rattle.da_tables.specs.declared.connections.Connection.{Connection}
@@ -59,6 +59,10 @@ closing conn tables = record { tables = with_end conn tables; continued = None; 
 -- a new request, which is the one that continues
 abbrev pub continuing_new : Request → Tables → AfterInput
 continuing_new r tables = continuing (suc (length tables.requests)) (record tables { requests = tables.requests ++ r ∷ [] })
+
+-- each client's request that isn't decided is timed out once its limit is reached
+unfoldable pub with_timed_out : Settings → ℕ → Tables → Tables
+with_timed_out settings moment tables = record tables { requests = map (timed_out_if_over settings moment) tables.requests }
 
 unfoldable pub with_due_replied : Settings → ℕ → Tables → Tables
 with_due_replied settings moment tables = record tables { requests = map (replied_if_due settings moment) tables.requests }

@@ -10,17 +10,17 @@ use Rattle.da_passdb.specs.Outcomes.{outcome, password_comparison}
 use Rattle.da_passdb.specs.LoginChain.{move, login_chain}
 use Rattle.da_settings.specs.DefaultSettings.{default_settings}
 use Rattle.da_request.specs.Attempts.{said, names, opening, attempt_stage}
-use Rattle.da_request.specs.Requests.{request_stage, login_of, decision, reply_delay, is_due}
-use Rattle.da_tables.specs.Tables.{with_due_replied}
-use Rattle.da_play.specs.History.{after_input, after_stage, after}
+use Rattle.da_request.specs.Requests.{request_stage, login_of, decision, reply_delay, is_due, is_over_limit}
+use Rattle.da_tables.specs.Tables.{with_due_replied, with_timed_out}
+use Rattle.da_play.specs.History.{before_input, after_input, after_stage, after}
 use Rattle.da_play.specs.Effects.{due_requests, effects}
 use Rattle.da_play.specs.Play.{refusal, hits, next_entry, outputs}
 use Rattle.da_runs.proofs.worked_runs.masters_log_in_for_users.Goals as goal
 
 pub returns-clause-unknown : goal.returns-clause-unknown
-unfolding digits groups_error groups_bytes scan_steps client_message greeting reply_line filter_matches stored_password matches plain_says outcome password_comparison move login_chain default_settings said names opening attempt_stage request_stage login_of decision reply_delay is_due with_due_replied after_input after_stage after due_requests effects refusal hits next_entry outputs
+unfolding digits groups_error groups_bytes scan_steps client_message greeting reply_line filter_matches stored_password matches plain_says outcome password_comparison move login_chain default_settings said names opening attempt_stage request_stage login_of decision reply_delay is_due is_over_limit with_timed_out with_due_replied before_input after_input after_stage after due_requests effects refusal hits next_entry outputs
 returns-clause-unknown c = refl
 
 pub returns-clause-there : goal.returns-clause-there
-unfolding digits groups_error groups_bytes scan_steps client_message greeting reply_line filter_matches stored_password matches plain_says outcome password_comparison move login_chain default_settings said names opening attempt_stage request_stage login_of decision reply_delay is_due with_due_replied after_input after_stage after due_requests effects refusal hits next_entry outputs
+unfolding digits groups_error groups_bytes scan_steps client_message greeting reply_line filter_matches stored_password matches plain_says outcome password_comparison move login_chain default_settings said names opening attempt_stage request_stage login_of decision reply_delay is_due is_over_limit with_timed_out with_due_replied before_input after_input after_stage after due_requests effects refusal hits next_entry outputs
 returns-clause-there c = refl
