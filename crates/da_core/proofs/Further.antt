@@ -2,7 +2,7 @@
 use Rattle.std.proofs.Common.{◌≡◌, sym, ◌∙◌, ap, ap₂, reverse, Option, ◌+◌, ◌-◌, List, [], ◌∷◌, ◌++◌, ℕ, ◌≤◌, ◌<◌, length, map, arith, subst}
 use Rattle.std.proofs.lemmas.List.{reverse-append, length-reverse}
 use Rattle.da_base.specs.Words.{Bytes}
-use Rattle.da_core.specs.Bridges.{IsKept, IsNextOf, held_due}
+use Rattle.da_core.specs.Bridges.{IsKept, IsNextOf, next_due}
 use Rattle.da_entry.specs.Bridges.{IsReplayed}
 use Rattle.da_entry.specs.declared.replayed.Entered.{Entered}
 use Rattle.da_entry.specs.declared.replayed.Replayed.{Replayed}
@@ -40,7 +40,7 @@ rows_of settings h replayed n is few =
 -- what comes next, as it was computed from the fields
 pub is_next : (settings : Settings) (goal : Option Goal) (entries items : List Entry) (served : Served) (entered : Entered) (dues : List (Option ℕ)) → entries ≡ items → record { settings = settings; goal = goal; history = reverse items } ≡ served →
     entered.outputs ≡ outputs settings (reverse entries) entered.entry → IsReplayed settings (entered.entry ∷ reverse entries) entered.replayed → length entries < 4294967294 →
-    dues ≡ map (held_due settings) entered.replayed.tables.requests → IsNextOf served entered dues
+    dues ≡ map (next_due settings) entered.replayed.tables.requests → IsNextOf served entered dues
 is_next settings goal entries items served entered dues e view gives is few due =
     let short : length (entered.entry ∷ reverse entries) < 4294967295 = omega (arith, few, length-reverse entries) in
     subst (λ s. IsNextOf s entered dues) view

@@ -1,3 +1,3 @@
 mod Further
-mod HeldReplies
+mod NextDues
 mod Told

@@ -2,7 +2,7 @@
 use Rattle.std.proofs.Common.{◌≡◌, sym, ◌∙◌, ap, ap₂, subst, List, ℕ, Bool, ◌||◌, Option, is_some, reverse, map}
 use Rattle.std.specs.List.{list_any}
 use Rattle.da_base.specs.Words.{Bytes}
-use Rattle.da_core.proofs.HeldReplies.{one_is_due, one_is_held}
+use Rattle.da_core.proofs.NextDues.{one_is_told, one_is_awaited}
 use Rattle.da_core.specs.Bridges.{IsKept, is_reached}
 use Rattle.da_core.specs.Clock.{due_at, due_in, first_late, needs_clock, needs_clock_in}
 use Rattle.da_core.specs.declared.clock.Due.{Due}
@@ -25,11 +25,11 @@ module _ (settings : Settings) (goal : Option Goal) (items : List Entry) (served
       query ≡ first_late settings moment replayed.tables.queries → record { reply = reply; query = query } ≡ due_at served m
   due_is m moment reply query at reply_is query_is =
       subst (λ s. as_due reply query ≡ due_at s m) view
-      (ap₂ as_due (reply_is ∙ ap (list_any (is_reached moment)) kept.dues ∙ one_is_due settings moment replayed.tables.requests) query_is
+      (ap₂ as_due (reply_is ∙ ap (list_any (is_reached moment)) kept.dues ∙ one_is_told settings moment replayed.tables.requests) query_is
       ∙ ap₂ (due_in settings) at kept.replayed.tables)
 
   pub clock_is : (runs held : Bool) → runs ≡ list_any is_running replayed.tables.queries → held ≡ list_any is_some dues → (runs || held) ≡ needs_clock served.settings served.history
   clock_is runs held runs_is held_is =
       subst (λ (s : Served). (runs || held) ≡ needs_clock s.settings s.history) view
-      (ap₂ (λ (a b : Bool). a || b) runs_is (held_is ∙ ap (list_any is_some) kept.dues ∙ one_is_held settings replayed.tables.requests)
+      (ap₂ (λ (a b : Bool). a || b) runs_is (held_is ∙ ap (list_any is_some) kept.dues ∙ one_is_awaited settings replayed.tables.requests)
       ∙ ap needs_clock_in kept.replayed.tables)

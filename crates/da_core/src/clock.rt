@@ -1,10 +1,10 @@
-// What is due as time passes: replies that are held back, and queries that run.
+// What is due as time passes: replies that are held back, the limits of requests, and queries that run.
 
 ghost use Rattle.std.specs.List.{list_any};
 ghost use Rattle.std.specs.Prelude.{◌≡◌, ◌<◌, ◌^◌, ◌-◌, length, map, is_some, IfOk, nat_le};
 ghost use Rattle.da_base.specs.Words.{number_where, passes_option};
 ghost use Rattle.da_core.specs.Clock.{first_late, is_late};
-ghost use Rattle.da_core.specs.Bridges.{held_due, is_reached};
+ghost use Rattle.da_core.specs.Bridges.{is_reached, next_due};
 ghost use Rattle.da_tables.specs.Queries.{is_running};
 
 use da_request::Request;
@@ -15,36 +15,39 @@ use std::alloc::{AllocError, Global};
 /// What is due at a moment.
 #[derive(Clone, Copy, Debug, Drop, PartialEq, Eq)]
 pub struct Due {
-    /// A reply that was held back is due.
+    /// A reply that was held back is due, or a client's request that isn't decided has reached its limit.
     pub reply: bool,
     /// The first query that has run as long as it may.
     pub query: Option<u32>,
 }
 
-fn held_due(
+fn next_due(
     alloc: Global,
     settings: &Settings,
     request: &Request,
 ) -> Result<Option<u64>, AllocError>
-    ensures { IfOk result (λ due. due ≡ held_due settings.now request.now) }
+    ensures { IfOk result (λ due. due ≡ next_due settings.now request.now) }
 {
+    if request.has_limit() {
+        return Ok(Some(request.limit_moment(settings)));
+    }
     if !request.is_pending() {
         return Ok(None);
     }
     request.due_moment(alloc, settings)
 }
 
-/// When the reply to each request is due, where it is held back.
-pub(crate) fn held_dues(
+/// When the reply to each request is due as time passes: where it is held back, or its limit is still to come.
+pub(crate) fn next_dues(
     alloc: Global,
     settings: &Settings,
     requests: &[Request],
 ) -> Result<Vec<Option<u64>>, AllocError>
-    ensures { IfOk result (λ dues. dues.items ≡ map (held_due settings.now) requests.now) }
+    ensures { IfOk result (λ dues. dues.items ≡ map (next_due settings.now) requests.now) }
 {
     let mut dues = Vec::new(alloc);
     for request in requests {
-        dues.push(held_due(alloc, settings, request)?)?;
+        dues.push(next_due(alloc, settings, request)?)?;
     }
     Ok(dues)
 }
@@ -65,8 +68,8 @@ pub(crate) fn some_is_reached(dues: &[Option<u64>], moment: u64) -> bool
     dues.iter().any(|due| is_reached(due, moment))
 }
 
-/// Whether a reply is held back.
-pub(crate) fn some_is_held(dues: &[Option<u64>]) -> bool
+/// Whether there is one of these moments.
+pub(crate) fn some_is_set(dues: &[Option<u64>]) -> bool
     ensures { result ≡ list_any is_some dues.now }
 {
     dues.iter().any(|due| due.is_some())

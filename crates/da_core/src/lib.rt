@@ -1,6 +1,7 @@
 //! The sequential server with what follows from its history kept beside it: the tables, how many bytes the history may still
-//! grow by, when each reply that is held back is due, and the bytes that were sent to each connection. `Core::step` answers
-//! what the server computed from its history answers (`Steps` of `da_play`), and no step goes through the entries before it.
+//! grow by, when the next reply to each request comes due (one that is held back, or that of its limit), and the bytes that
+//! were sent to each connection. `Core::step` answers what the server computed from its history answers (`Steps` of
+//! `da_play`), and no step goes through the entries before it.
 #![tactic(auto)]
 
 mod clock;

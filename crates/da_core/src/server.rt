@@ -10,7 +10,7 @@ ghost use Rattle.da_play.specs.Play.{refusal, next_entry};
 ghost use Rattle.da_play.specs.Steps.{Steps};
 ghost use Rattle.da_tables.specs.Queries.{waiting, running};
 
-use crate::clock::{Due, first_late, held_dues, some_is_held, some_is_reached, some_runs};
+use crate::clock::{Due, first_late, next_dues, some_is_reached, some_is_set, some_runs};
 use crate::counts::{has_met, running_count, waiting_count};
 use crate::outgoing::{Taken, copy_from};
 use da_entry::{Entered, Replayed, entry_moment};
@@ -32,7 +32,7 @@ pub struct Core {
     outboxes: Outboxes,
 }
 
-/// The next entry, all that comes of it, and when replies are due after it.
+/// The next entry, all that comes of it, and when replies come due after it.
 #[derive(Drop)]
 struct Planned {
     entered: Entered,
@@ -108,7 +108,7 @@ impl Core {
         let replayed = self.replayed.copy(self.alloc)?;
         let entered = replayed.enter(self.alloc, &self.settings, &self.entries, moment, input)?;
         let requests = entered.replayed.tables.requests.all();
-        let dues = held_dues(self.alloc, &self.settings, requests)?;
+        let dues = next_dues(self.alloc, &self.settings, requests)?;
         Ok(Planned { entered, dues })
     }
 
@@ -177,8 +177,8 @@ impl Core {
         }
     }
 
-    /// What is due at this moment, or at the last entry's where that is later: whether a reply is, and the first running
-    /// query that is late then.
+    /// What is due at this moment, or at the last entry's where that is later: whether a reply is, or a request has reached
+    /// its limit, and the first running query that is late then.
     pub fn due(&self, moment: u64) -> Due
         ensures { result ≡ due_at self.now moment }
     {
@@ -190,14 +190,14 @@ impl Core {
         }
     }
 
-    /// Whether something comes due as time passes, without any further input: a query runs, or a reply is held back. Where
-    /// nothing does, no moment makes `due` tell anything until the next entry.
+    /// Whether something comes due as time passes, without any further input: a query runs, a reply is held back, or a
+    /// client's request isn't decided. Where nothing does, no moment makes `due` tell anything until the next entry.
     pub fn needs_clock(&self) -> bool
         ensures { result ≡ needs_clock self.now.settings self.now.history }
     {
         let runs = some_runs(self.replayed.tables.queries.all());
-        let is_held = some_is_held(&self.dues);
-        runs || is_held
+        let is_awaited = some_is_set(&self.dues);
+        runs || is_awaited
     }
 
     fn has_ended(&self, conn: u32) -> bool

@@ -3,7 +3,7 @@
 ghost use Rattle.std.specs.Prelude.{◌≡◌, ◌<◌, ◌^◌, ◌-◌, ◌++◌, ◌∷◌, [], length, IfOk, Some, OnOk};
 ghost use Rattle.da_answers.specs.Hits.{after_hits};
 ghost use Rattle.da_base.specs.Words.{nth, option_or_else};
-ghost use Rattle.da_play.specs.History.{after_input, follows_from, after_stage, is_answer_recorded as spec_is_recorded, kept_for, keeps};
+ghost use Rattle.da_play.specs.History.{with_handed_out, before_replies as spec_before_replies, before_input as spec_before_input, after_input, follows_from, after_stage, is_answer_recorded as spec_is_recorded, kept_for, keeps};
 ghost use Rattle.da_request.specs.declared.request.Request.{Request as SomeRequest};
 ghost use Rattle.da_tables.specs.Bridges.{with_effect};
 ghost use Rattle.da_tables.specs.declared.tables.Tables.{Tables as SomeTables};
@@ -16,6 +16,44 @@ use da_request::Stage;
 use da_settings::Settings;
 use da_tables::{InputEffect, Tables, add_query, first_waiting, is_running_in};
 use std::alloc::{AllocError, Global};
+
+// ---- part one of an entry: a query is handed out, requests are timed out, and the replies that are due are given
+
+// The first query that waits is handed out, where the input is a Take.
+fn hand_out(tables: &mut Tables, moment: u64, input: &Input)
+    requires { length tables.old.queries < 2 ^ 32 - 1 }
+    ensures { tables.new ≡ with_handed_out moment input.now tables.old }
+{
+    if let Input::Take = input {
+        let number = first_waiting(tables);
+        tables.take(moment, number);
+    }
+}
+
+/// Goes on to where it is seen which replies are due.
+pub(crate) fn before_replies(tables: &mut Tables, settings: &Settings, moment: u64, input: &Input)
+    requires { length tables.old.queries < 2 ^ 32 - 1 }
+    ensures { tables.new ≡ spec_before_replies settings.now moment input.now tables.old }
+{
+    hand_out(tables, moment, input);
+    tables.time_out(settings, moment);
+}
+
+/// Goes on to where the input has its own effect.
+#[tactic(auto, unfolding(da_play::specs::History::before_input))]
+pub(crate) fn before_input(
+    tables: &mut Tables,
+    alloc: Global,
+    settings: &Settings,
+    moment: u64,
+    input: &Input,
+) -> Result<(), AllocError>
+    requires { length tables.old.queries < 2 ^ 32 - 1 }
+    ensures { OnOk result (tables.new ≡ spec_before_input settings.now moment input.now tables.old) }
+{
+    before_replies(tables, settings, moment, input);
+    tables.reply_due(alloc, settings, moment)
+}
 
 // ---- part two of an entry: the input has its own effect
 
@@ -42,10 +80,7 @@ pub(crate) fn apply_input(
             return Ok(InputEffect::closing(*conn));
         }
         Input::Gone { conn } => tables.end(*conn),
-        Input::Take => {
-            let number = first_waiting(tables);
-            tables.take(moment, number);
-        }
+        Input::Take => {}
         Input::Answered { query, answer } => {
             return record_answer(alloc, settings, moment, *query, answer.copy(alloc)?, tables);
         }

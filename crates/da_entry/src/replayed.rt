@@ -4,14 +4,13 @@ ghost use Rattle.std.specs.Prelude.{◌≡◌, ◌<◌, ◌^◌, ◌-◌, ◌+�
 ghost use Rattle.da_base.specs.Words.{nth};
 ghost use Rattle.da_entry.specs.Bridges.{IsReplayed, PassesTo};
 ghost use Rattle.da_play.specs.Effects.{effects};
-ghost use Rattle.da_play.specs.History.{after_input, after};
+ghost use Rattle.da_play.specs.History.{before_input as spec_before_input, after_input, after};
 ghost use Rattle.da_play.specs.Legal.{entry_moment, input_size, is_full};
 ghost use Rattle.da_play.specs.Play.{hits_for, outputs_with, refusal, next_entry, outputs as outputs_of_entry};
 ghost use Rattle.da_tables.specs.Queries.{query_with as words_query_with};
-ghost use Rattle.da_tables.specs.Tables.{with_due_replied};
 
 use crate::effects::{apply_entry, due_lines, own_lines};
-use crate::history::apply_input;
+use crate::history::{apply_input, before_input};
 use crate::refusals::input_refusal;
 use crate::sizes::{left_after_input, left_after_lines};
 use da_answers::{database_count, hits_from};
@@ -52,13 +51,13 @@ fn hits_of(
     requires requests { length tables.now.requests < 2 ^ 32 - 1 }
     requires connections { length tables.now.connections < 2 ^ 32 - 1 }
     requires queries { length tables.now.queries < 2 ^ 32 - 1 }
-    ensures { IfOk result (λ hits. hits.items ≡ hits_for settings.now moment tables.now (after_input settings.now moment input.now (with_due_replied settings.now moment tables.now))) }
+    ensures { IfOk result (λ hits. hits.items ≡ hits_for settings.now moment tables.now (after_input settings.now moment input.now (spec_before_input settings.now moment input.now tables.now))) }
 {
     if tables.keys.all().is_empty() {
         return Ok(Vec::new(alloc));
     }
     let mut ahead = tables.copy(alloc)?;
-    ahead.reply_due(alloc, settings, moment)?;
+    before_input(&mut ahead, alloc, settings, moment, input)?;
     let effect = apply_input(&mut ahead, alloc, settings, moment, input)?;
     let Some(number) = effect.continued else {
         return Ok(Vec::new(alloc));
@@ -133,7 +132,7 @@ fn enter(
     requires requests { length replayed.tables.requests < 2 ^ 32 - 1 }
     requires connections { length replayed.tables.connections < 2 ^ 32 - 1 }
     requires queries { length replayed.tables.queries < 2 ^ 32 - 1 }
-    ensures entry { IfOk result (λ entered. entered.entry ≡ record { moment = moment; input = input; hits = hits_for settings.now moment replayed.tables (after_input settings.now moment input (with_due_replied settings.now moment replayed.tables)) }) }
+    ensures entry { IfOk result (λ entered. entered.entry ≡ record { moment = moment; input = input; hits = hits_for settings.now moment replayed.tables (after_input settings.now moment input (spec_before_input settings.now moment input replayed.tables)) }) }
     ensures outputs { IfOk result (λ entered. entered.outputs ≡ outputs_with settings.now number entered.entry.hits (after settings.now replayed.tables entered.entry) (effects settings.now replayed.tables entered.entry)) }
     ensures passes { IfOk result (λ entered. PassesTo settings.now entered.entry replayed entered.replayed) }
 {

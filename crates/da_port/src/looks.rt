@@ -37,8 +37,8 @@ impl Port {
         taken
     }
 
-    /// Whether a reply is due at this moment, or at the last entry's where that is later, and the first query that is late
-    /// then. It takes no memory.
+    /// Whether a reply is due at this moment, or at the last entry's where that is later, or a login has reached its limit
+    /// then, and the first query that is late. It takes no memory.
     pub fn due<R: Wait>(&self, rt: &R, seat: &mut Seat, moment: u64) -> Due
         requires own { IsOf self.now seat.old × IsFree seat.old }
         ensures seat { Stays seat.old seat.new × Looks seat.old seat.new }
@@ -50,7 +50,8 @@ impl Port {
         due
     }
 
-    /// Whether a query runs or a reply is held back, so that something may become due as time passes. It takes no memory.
+    /// Whether a query runs, a reply is held back or a client's request isn't decided, so that something may become due as
+    /// time passes. It takes no memory.
     pub fn needs_clock<R: Wait>(&self, rt: &R, seat: &mut Seat) -> bool
         requires own { IsOf self.now seat.old × IsFree seat.old }
         ensures seat { Stays seat.old seat.new × Looks seat.old seat.new }

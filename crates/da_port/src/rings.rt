@@ -11,7 +11,7 @@ pub(crate) struct Rings {
     ended: Option<u32>,
     /// A query more waits.
     query: bool,
-    /// A query runs, or a reply is held back.
+    /// A query runs, a reply is held back, or a client's request isn't decided.
     clock: bool,
     /// The history is full or over.
     all: bool,

@@ -32,7 +32,7 @@ impl Port {
         self.bells.clock.mark()
     }
 
-    /// Waits until a query is taken or a reply is held back, after the mark.
+    /// Waits until a query is taken, a reply is held back or a client's request isn't decided, after the mark.
     pub fn await_clock<R: Wait>(&self, rt: &R, mark: Mark) {
         self.bells.clock.wait(rt, mark);
     }

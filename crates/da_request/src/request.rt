@@ -183,11 +183,11 @@ pub fn add_answer(request: &mut Request, db: u32, answer: Answer) -> Result<(), 
     Ok(())
 }
 
-/// A request that isn't decided has this answer under its database.
+/// A request that isn't decided, or was timed out, has this answer under its database.
 pub fn add_late_answer(request: &mut Request, db: u32, answer: Answer) -> Result<(), AllocError>
     ensures { OnOk result (request.new ≡ with_late_answer db answer request.old) }
 {
-    if request.decided.is_some() {
+    if request.decided.is_some() && !request.is_timed_out {
         return Ok(());
     }
     add_answer(request, db, answer)

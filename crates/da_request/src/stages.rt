@@ -4,7 +4,7 @@ ghost use Rattle.std.specs.Prelude.{◌≡◌, ◌<◌, ◌^◌, ◌-◌, ◌++�
 ghost use Rattle.da_fields.specs.Answers.{answer_fields};
 ghost use Rattle.da_fields.specs.FieldList.{field};
 ghost use Rattle.da_request.specs.Attempts.{said, login_in};
-ghost use Rattle.da_request.specs.Requests.{replied_if_due, with_decision, request_stage, decision, login_of, due_moment, is_due, is_held, reply_delay, attempt_by, grant_stage, lookup_stage, has_nodelay};
+ghost use Rattle.da_request.specs.Requests.{replied_if_due, with_decision, request_stage, decision_in, decision, login_of, due_from, due_moment, is_due, is_held, reply_delay, attempt_by, grant_stage, lookup_stage, has_nodelay};
 
 use crate::attempts::{Attempt, attempt_stage};
 use crate::messages::said;
@@ -108,7 +108,7 @@ impl Request {
         }
     }
 
-    /// The decision, where there is one.
+    /// The decision, where there is one: that of its limit where it was timed out, and else that of its stage.
     #[tactic(auto, unfolding(crate::specs::Requests::decision))]
     pub fn decision(
         &self,
@@ -116,6 +116,20 @@ impl Request {
         settings: &Settings,
     ) -> Result<Option<Decision>, AllocError>
         ensures { IfOk result (λ value. value ≡ decision settings.now self.now) }
+    {
+        if self.is_timed_out {
+            return Ok(Some(self.timed_failure(alloc, settings)?));
+        }
+        self.stage_decision(alloc, settings)
+    }
+
+    // The decision of its stage, where that is decided.
+    fn stage_decision(
+        &self,
+        alloc: Global,
+        settings: &Settings,
+    ) -> Result<Option<Decision>, AllocError>
+        ensures { IfOk result (λ value. value ≡ decision_in (request_stage settings.now self.now)) }
     {
         match self.stage(alloc, settings)? {
             Stage::Decided(decision) => Ok(Some(decision)),
@@ -148,12 +162,20 @@ impl Request {
         ensures { IfOk result (λ due. due ≡ due_moment settings.now self.now) }
     {
         match self.decided {
-            Some(moment) => {
-                let delay = self.reply_delay(alloc, settings)?;
-                Ok(Some(moment.saturating_add(delay)))
-            }
+            Some(moment) => Ok(Some(self.due_from(alloc, settings, moment)?)),
             None => Ok(None),
         }
+    }
+
+    // When the reply is due, where it was decided at this moment.
+    fn due_from(&self, alloc: Global, settings: &Settings, decided: u64) -> Result<u64, AllocError>
+        ensures { IfOk result (λ due. due ≡ due_from settings.now self.now decided) }
+    {
+        if self.is_timed_out {
+            return Ok(self.limit_moment(settings));
+        }
+        let delay = self.reply_delay(alloc, settings)?;
+        Ok(decided.saturating_add(delay))
     }
 
     /// Whether the request is to be replied at an entry of this moment.

@@ -40,7 +40,7 @@ pub fn query_password(
     }
 }
 
-fn is_authentication(body: &Body) -> bool
+pub(crate) fn is_authentication(body: &Body) -> bool
     ensures { result ≡ is_authentication body.now }
 {
     match body {

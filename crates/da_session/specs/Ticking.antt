@@ -12,7 +12,7 @@ use Rattle.da_session.specs.Made.{IsMade}
 use Rattle.da_turn.specs.Entries.{IsLater}
 use Rattle.da_turn.specs.Seats.{seen, made}
 
--- the input is one that is due: a Tick where a reply is, or a Late of the query that is late
+-- the input is one that is due: a Tick where a reply is, or the limit of a request, or a Late of the query that is late
 abbrev pub IsDueInput : Due → Input → Type 0
 IsDueInput due Tick = due.reply ≡ true
 IsDueInput due (Late query) = due.query ≡ Some query

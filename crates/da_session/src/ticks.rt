@@ -27,7 +27,8 @@ fn record_due<R: Wait, C: Clock>(rt: &R, port: &Port, seat: &mut Seat, clock: &C
     }
 }
 
-/// Lets time pass until the history is full or over: makes a Tick where a reply is due, and a Late where a query is late.
+/// Lets time pass until the history is full or over: makes a Tick where a reply is due or a login has reached its limit, and
+/// a Late where a query is late.
 /// While nothing may become due it waits, and costs no processor. While something may, it rests between its looks.
 pub fn serve_ticks<R: Wait, C: Clock, Z: Pause>(
     rt: &R,

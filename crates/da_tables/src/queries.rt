@@ -1,7 +1,8 @@
 // The queries of the server: which wait, which run, and changes of them.
 
-ghost use Rattle.std.specs.Prelude.{◌≡◌, ◌<◌, ◌^◌, ◌-◌, ◌++◌, ◌∷◌, [], OnOk, not, length, IfOk, Some};
+ghost use Rattle.std.specs.Prelude.{◌≡◌, ◌<◌, ◌^◌, ◌-◌, ◌++◌, ◌∷◌, [], OnOk, length, IfOk, Some};
 ghost use Rattle.da_base.specs.Words.{changed_nth, nth, passes_option};
+ghost use Rattle.da_request.specs.Requests.{is_wanted};
 ghost use Rattle.da_request.specs.declared.request.Request.{Request as SomeRequest};
 ghost use Rattle.da_tables.specs.Bridges.{answered_with};
 ghost use Rattle.da_tables.specs.Queries.{as_taken, used_again, is_waiting, first_waiting, is_running, is_running_in, query_with, with_new_query, with_comparison};
@@ -104,17 +105,17 @@ pub fn use_row_again(
     use_again(query_row, comparison)
 }
 
-// Whether the request of this number is there and wasn't cancelled.
+// Whether the request of this number is there, and is neither cancelled nor timed out.
 fn is_wanted(requests: &[Request], number: u32) -> bool
-    ensures { result ≡ passes_option (λ r. not r.is_cancelled) (nth requests.now number) }
+    ensures { result ≡ passes_option is_wanted (nth requests.now number) }
 {
     match row(requests, number) {
-        Some(request) => !request.is_cancelled,
+        Some(request) => request.is_wanted(),
         None => false,
     }
 }
 
-/// Whether the query waits to be taken. It waits no more once its request is cancelled.
+/// Whether the query waits to be taken. It waits no more once its request is cancelled or timed out.
 pub fn is_waiting(tables: &Tables, query_row: &QueryRow) -> bool
     ensures { result ≡ is_waiting tables.now query_row.now }
 {

@@ -3,7 +3,7 @@
 ghost use Rattle.std.specs.List.{list_any};
 ghost use Rattle.std.specs.Prelude.{◌≡◌, ◌<◌, ◌^◌, ◌-◌, ◌&&◌, ◌==◌, length, OnOk, ◌++◌, ◌∷◌, [], map};
 ghost use Rattle.da_base.specs.Words.{number_where, count_where, changed_nth, nth, passes_option};
-ghost use Rattle.da_request.specs.Requests.{is_of, is_pending, with_text, is_granted_for, replied_if_due, with_decision, is_undecided, with_answer, with_late_answer, cancelled, as_cancelled_of};
+ghost use Rattle.da_request.specs.Requests.{is_of, is_pending, with_text, is_granted_for, replied_if_due, timed_out_if_over, with_decision, is_undecided, with_answer, with_late_answer, cancelled, as_cancelled_of};
 
 use da_fields::{Answer, Text};
 use da_request::{Request, add_answer, add_late_answer, row, row_index};
@@ -44,6 +44,13 @@ impl Requests {
         ensures { OnOk result (self.new ≡ map (replied_if_due settings.now moment) self.old) }
     {
         reply_all_due(&mut self.items, alloc, settings, moment)
+    }
+
+    /// The requests whose limit is reached at this moment are timed out now.
+    pub fn time_out(&mut self, settings: &Settings, moment: u64)
+        ensures { self.new ≡ map (timed_out_if_over settings.now moment) self.old }
+    {
+        time_all_out(&mut self.items, settings, moment);
     }
 
     pub(crate) fn cancel_of(&mut self, conn: u32)
@@ -111,6 +118,14 @@ fn reply_all_due(
     Ok(())
 }
 
+fn time_all_out(requests: &mut [Request], settings: &Settings, moment: u64)
+    ensures { requests.new ≡ map (timed_out_if_over settings.now moment) requests.old }
+{
+    for request in requests.iter_mut() {
+        request.time_out_if_over(settings, moment);
+    }
+}
+
 pub(crate) fn decide_row(
     requests: &mut [Request],
     alloc: Global,
@@ -153,7 +168,7 @@ pub fn answer_in_row(
     add_answer(request, db, answer)
 }
 
-/// A request of this number that is not decided has this answer under its database.
+/// A request of this number that isn't decided, or was timed out, has this answer under its database.
 pub fn late_answer_in_row(
     requests: &mut Requests,
     number: u32,

@@ -6,7 +6,7 @@ ghost use Rattle.da_request.specs.Requests.{with_text, with_decision, cancelled}
 ghost use Rattle.da_tables.specs.Bridges.{with_effect};
 ghost use Rattle.da_tables.specs.Connections.{is_used, with_version, with_pid};
 ghost use Rattle.da_tables.specs.Queries.{as_taken};
-ghost use Rattle.da_tables.specs.Tables.{with_request, continuing_new, with_due_replied, with_query, at_start, with_end, with_connection};
+ghost use Rattle.da_tables.specs.Tables.{with_request, continuing_new, with_due_replied, with_timed_out, with_query, at_start, with_end, with_connection};
 
 use crate::connections::{Connection, Connections, set_pid, version};
 use crate::input_effect::InputEffect;
@@ -56,6 +56,14 @@ impl Tables {
         let number = self.requests.items.len() as u32 + 1;
         self.requests.items.push(request)?;
         Ok(InputEffect::continuing(number))
+    }
+
+    /// The requests whose limit is reached are timed out.
+    #[tactic(auto, unfolding(crate::specs::Tables::with_timed_out))]
+    pub fn time_out(&mut self, settings: &Settings, moment: u64)
+        ensures { self.new ≡ with_timed_out settings.now moment self.old }
+    {
+        self.requests.time_out(settings, moment);
     }
 
     /// The replies that are due are given.

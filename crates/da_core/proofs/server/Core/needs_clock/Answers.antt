@@ -15,4 +15,4 @@ pub returns-else-runs : goal.returns-else-runs
 returns-else-runs c =
     let runs : false ≡ list_any is_running c.self.inside.replayed.tables.queries = cc in
     clock_is c.self.inside.settings c.self.inside.goal c.self.inside.entries.items c.args.self.now c.self.inside.replayed c.self.inside.dues.items c.self.inside.outboxes c.self.view_is c.self.invariant
-    false c.some_is_held-is_held.result runs (cc)
+    false c.some_is_set-is_awaited.result runs (cc)

@@ -1,6 +1,0 @@
-use Rattle.std.proofs.Common.{◌≡◌, map, take}
-use Rattle.da_core.specs.Bridges.{held_due}
-use Rattle.da_core.proofs.clock.held_dues.Given as goal
-
-abbrev pub invariant-loop-request : goal.invariant-loop-request
-invariant-loop-request l = l.dues.items ≡ map (held_due l.settings) (take l.request-index l.requests)
