@@ -1,12 +1,12 @@
 -- What is recorded of an answer, and what of it is kept.
-use Rattle.std.specs.Prelude.{ℕ, Bool, true, false, List, [], ◌∷◌, Option, Some, None, if◌then◌else◌}
-use Rattle.da_base.specs.Words.{nth, passes_option, option_or_else}
+use Rattle.std.specs.Prelude.{ℕ, Bool, true, false, ◌&&◌, List, [], ◌∷◌, Option, Some, None, if◌then◌else◌, ◌==◌}
+use Rattle.da_base.specs.Words.{nth, number_where, passes_option, option_or_else}
 use Rattle.da_fields.specs.Answers.{fits, Answers}
 use Rattle.da_keys.specs.Keys.{with_key}
 use Rattle.da_keys.specs.declared.key.Key.{Key}
 use Rattle.da_fields.specs.declared.answer.Answer.{Answer}
 use Rattle.da_fields.specs.declared.answer.Answer.TheVariants.{Found, Unknown, Internal}
-use Rattle.da_fields.specs.declared.answer.Why.TheVariants.{Malformed}
+use Rattle.da_fields.specs.declared.answer.Why.TheVariants.{Died, Malformed}
 use Rattle.da_fields.specs.declared.answer.QueryKind.{QueryKind}
 use Rattle.da_fields.specs.declared.answer.QueryKind.TheVariants.{Check}
 use Rattle.da_request.specs.Requests.{is_undecided, use_comparison, with_answer, with_late_answer}
@@ -52,16 +52,44 @@ abbrev pub answered_by : Settings → ℕ → Option Request → Answer → Quer
 answered_by settings moment r answer a =
     record a { answer = Some (answer, moment); comparisons = compared_by settings r a.question answer a.comparisons }
 
--- the answer to its query continues a request, unless it was cancelled before
+-- ---- answers that are lost
+
+-- the worker that was to answer has died
+abbrev pub is_death : Answer → Bool
+is_death (Internal Died) = true
+is_death _ = false
+
+-- two queries of one request to one database
+abbrev pub asks_same : QueryRow → QueryRow → Bool
+asks_same a b = (b.request == a.request) && (b.question.db == a.question.db)
+
+-- a query that is answered so is lost, with its worker: it is the first that its request asked this database, and it checks
+-- no password by a program
+abbrev pub is_lost : List QueryRow → ℕ → QueryRow → Answer → Bool
+is_lost queries number a answer = is_death answer && is_kept_kind a.question.kind && (number_where (asks_same a) queries == number)
+
+-- the query of this number has an answer, and is lost
+abbrev pub is_lost_in : List QueryRow → ℕ → Bool
+is_lost_in queries number = passes_option (λ a. passes_option (λ p. is_lost queries number a p.0) a.answer) (nth queries number)
+
+-- ---- what an answer does
+
+-- the request of a lost query continues with the answers that it has, where it is undecided, and so asks once more
+abbrev pub asks_again : ℕ → Tables → AfterInput
+asks_again number tables = if passes_option is_undecided (nth tables.requests number) then continuing number tables else continuing_none tables
+
+-- the answer to its query continues a request, unless it was cancelled or timed out before
 abbrev pub answers_request : ℕ → Question → Answer → Tables → AfterInput
 answers_request number q answer tables =
     if passes_option is_undecided (nth tables.requests number)
     then continuing number (with_request (with_answer q.db answer) number tables)
     else continuing_none (with_request (with_late_answer q.db answer) number tables)
 
+-- the answer stands with its query; one that is lost isn't the request's
 abbrev pub after_answer_for : Settings → ℕ → ℕ → QueryRow → Answer → Tables → AfterInput
 after_answer_for settings moment number a answer tables =
-    answers_request a.request a.question answer (with_query (answered_by settings moment (nth tables.requests a.request) answer) number tables)
+    let answered = with_query (answered_by settings moment (nth tables.requests a.request) answer) number tables in
+    if is_lost tables.queries number a answer then asks_again a.request answered else answers_request a.request a.question answer answered
 
 -- the answer to a running query is recorded
 abbrev pub after_answer : Settings → ℕ → ℕ → Answer → Option QueryRow → Tables → AfterInput

@@ -3,6 +3,7 @@
 ghost use Rattle.da_invariants.specs.KeyLaws.{KeysFit};
 ghost use Rattle.da_invariants.specs.NameLaws.{IdsAreDistinct, ProcessNumbersAreDistinct};
 ghost use Rattle.da_invariants.specs.QueryLaws.{OpenQueriesAreAsked, AnswersAreDistinct};
+ghost use Rattle.da_invariants.specs.RepeatLaws.{AskedAgainWhereLost, AskedTwiceAtMost, LostIsAskedAgain};
 ghost use Rattle.da_invariants.specs.StandingLaws.{WhatIsDoneStands, UsedStaysUsed, DecisionsStand};
 
 /// What is ended, cancelled, decided, replied, granted, taken or answered stays so, whatever comes later.
@@ -43,4 +44,21 @@ pub fn process_numbers_are_distinct()
 /// No two requests of a connection have one id.
 pub fn ids_are_distinct()
     ensures { IdsAreDistinct }
+{}
+
+/// In a legal history a request asks a database a second time only where its first query was lost: its worker died, and it
+/// ran no program. Then it asks the same.
+pub fn asked_again_where_lost()
+    ensures { AskedAgainWhereLost }
+{}
+
+/// In a legal history a request asks a database twice at most.
+pub fn asked_twice_at_most()
+    ensures { AskedTwiceAtMost }
+{}
+
+/// Where a query is lost, and no answer is repeated in its stead, its request asks the same again under the next number,
+/// unless it is decided, cancelled or timed out by then.
+pub fn lost_is_asked_again()
+    ensures { LostIsAskedAgain }
 {}

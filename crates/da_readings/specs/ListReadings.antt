@@ -1,5 +1,5 @@
 -- Laws that read what the lines say of requests and answers, in order.
-use Rattle.std.specs.Prelude.{◌≡◌, ℕ, Bool, ◌&&◌, option_to_list, List, [], ◌∷◌, ◌++◌, Option, Some, None, flat_map, option_and_then, if◌then◌else◌, ◌==◌}
+use Rattle.std.specs.Prelude.{◌≡◌, ℕ, Bool, ◌&&◌, not, option_to_list, List, [], ◌∷◌, ◌++◌, Option, Some, None, flat_map, option_and_then, if◌then◌else◌, ◌==◌}
 use Rattle.da_base.specs.Words.{Bytes, nth, passes_option, option_or_else}
 use Rattle.da_fields.specs.Answers.{Answers}
 use Rattle.da_fields.specs.declared.answer.Answer.{Answer}
@@ -7,7 +7,7 @@ use Rattle.da_msgs.specs.ClientMessages.{client_message}
 use Rattle.da_msgs.specs.declared.client.ClientMsg.{ClientMsg}
 use Rattle.da_msgs.specs.declared.client.ClientMsg.TheVariants.{Cont}
 use Rattle.da_answers.specs.Hits.{hit_comparison}
-use Rattle.da_answers.specs.RecordedAnswers.{answer_under, is_kept, recorded_answer}
+use Rattle.da_answers.specs.RecordedAnswers.{answer_under, is_kept, is_lost_in, recorded_answer}
 use Rattle.da_play.specs.History.{after_input, before_input, tables_of}
 use Rattle.da_play.specs.Legal.{IsLegal}
 use Rattle.da_play.specs.declared.input.Entry.{Entry}
@@ -66,11 +66,12 @@ told_query (Answered k answer) = Some k
 told_query (Late k) = Some k
 told_query _ = None
 
--- the answer of query k after an entry, where it ran before as a query of request n
+-- the answer of query k after an entry, where it ran before as a query of request n, and isn't lost
 abbrev pub own_answer : List QueryRow → List QueryRow → ℕ → ℕ → Answers
-own_answer before after n k = if passes_option (λ a. is_running a && (a.request == n)) (nth before k) then answer_under after k else []
+own_answer before after n k =
+    if passes_option (λ a. is_running a && (a.request == n)) (nth before k) && not (is_lost_in after k) then answer_under after k else []
 
--- the answers of the queries of request n and of the hits of the entries that continued it, in order
+-- the answers of the queries of request n that aren't lost and of the hits of the entries that continued it, in order
 abbrev pub answers_read : Settings → List Entry → ℕ → Answers
 answers_read settings [] n = []
 answers_read settings (e ∷ g) n =
@@ -78,7 +79,7 @@ answers_read settings (e ∷ g) n =
     ++ option_or_else (told_query e.input) [] (own_answer (tables_of settings g).queries (tables_of settings (e ∷ g)).queries n)
     ++ if_continued (continued settings g e) n (flat_map (answer_under (tables_of settings g).queries) e.hits)
 
--- in a legal history the answers of a request are those of its own queries and of its hits, in order
+-- in a legal history the answers of a request are those of its own queries, but for lost ones, and of its hits, in order
 abbrev pub AnswersAreRead : Type 0
 AnswersAreRead =
     (settings : Settings) (h : List Entry) → IsLegal settings h → (n : ℕ) (r : Request) → nth (tables_of settings h).requests n ≡ Some r →

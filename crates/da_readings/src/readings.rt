@@ -40,7 +40,7 @@ pub fn cacheable_are_read()
     ensures { CacheableAreRead }
 {}
 
-/// In a legal history the answers of a request are those of its own queries and of its hits, in order.
+/// In a legal history the answers of a request are those of its own queries, but for lost ones, and of its hits, in order.
 pub fn answers_are_read()
     ensures { AnswersAreRead }
 {}

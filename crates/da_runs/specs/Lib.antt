@@ -6,6 +6,7 @@ pub mod RunsOfHandovers
 pub mod RunsOfLateAnswers
 pub mod RunsOfLimits
 pub mod RunsOfLogins
+pub mod RunsOfLostQueries
 pub mod RunsOfMasterLogins
 pub mod RunsOfScram
 pub mod RunsOfTheCache

@@ -1,6 +1,8 @@
 // Worked runs of the server, computed from the definitions: each clause plays events and says what is replied.
 
 ghost use Rattle.std.specs.Prelude.{◌≡◌, [], Some, None, codes};
+ghost use Rattle.da_fields.specs.declared.answer.Answer.TheVariants.{Internal, Passed};
+ghost use Rattle.da_fields.specs.declared.answer.Why.TheVariants.{Malformed};
 ghost use Rattle.da_play.specs.Play.{play};
 ghost use Rattle.da_runs.specs.RunWords.{line, answer, plain_login, alice, alice_with_no};
 ghost use Rattle.da_runs.specs.RunsOfConnections.{hasty_clients, hasty_clients_replies, used_numbers, used_numbers_replies, long_line, long_line_replies, one_entry, two_entries, two_entries_replies, one_connection, two_connections, two_connections_replies, early_worker, early_worker_replies};
@@ -10,6 +12,7 @@ ghost use Rattle.da_runs.specs.RunsOfHandovers.{with_users, handed_over, handed_
 ghost use Rattle.da_runs.specs.RunsOfLateAnswers.{given_up, given_up_replies, cancelled_before, cancelled_before_replies};
 ghost use Rattle.da_runs.specs.RunsOfLimits.{limit_reached, limit_reached_replies, cancelled_before_limit, cancelled_before_limit_replies, cancelled_at_limit, cancelled_at_limit_replies, taken_at_limit, taken_at_limit_replies, nothing_left, nothing_left_replies, late_at_limit, late_at_limit_replies, goes_on_by_login, goes_on_by_login_replies, said_at_limit, said_at_limit_replies, short_limit, by_moment, by_moment_replies, with_cache, answered_at_limit, answered_at_limit_replies, used_after_limit, used_after_limit_replies, at_the_end, at_the_end_replies};
 ghost use Rattle.da_runs.specs.RunsOfLogins.{right_login, right_login_replies, login_settings, name_and_password, name_and_password_replies};
+ghost use Rattle.da_runs.specs.RunsOfLostQueries.{died_once, died_once_replies, died_twice, died_twice_replies, said_nonsense, said_nonsense_replies, by_program, program_died, program_died_replies, each_loses_one, each_loses_one_replies, remembering, lost_then_hit, lost_then_hit_replies, lost_then_asked, lost_then_asked_replies, lost_at_limit, lost_at_limit_replies, lost_after_cancel, lost_after_cancel_replies};
 ghost use Rattle.da_runs.specs.RunsOfMasterLogins.{with_masters, bob_is_unknown, bob_is_unknown_replies, bob_is_there, bob_is_there_replies};
 ghost use Rattle.da_runs.specs.RunsOfScram.{scram_settings, keys_told, keys_told_replies, digest_told, digest_told_replies};
 ghost use Rattle.da_runs.specs.RunsOfTheCache.{one_second, told_again, told_again_replies, asked_once, asked_by_two, told_once, told_twice, her_password, compared, stored_pw};
@@ -125,4 +128,25 @@ pub fn messages_renew_no_limit()
 pub fn answers_outlive_their_logins()
     ensures cached { play with_cache [] answered_at_limit ≡ answered_at_limit_replies }
     ensures compared { play with_cache [] used_after_limit ≡ used_after_limit_replies }
+{}
+
+/// A database whose worker died is asked once more, under the next number, and that a worker dies again counts. Each login
+/// may lose one query of a database. A malformed answer counts at once, as does one that doesn't fit, and a program that
+/// checks passwords is run once.
+pub fn lost_queries_are_asked_once_more()
+    ensures once { play (default_settings 0) [] died_once ≡ died_once_replies }
+    ensures twice { play (default_settings 0) [] died_twice ≡ died_twice_replies }
+    ensures malformed { play (default_settings 0) [] (said_nonsense (Internal Malformed)) ≡ said_nonsense_replies }
+    ensures unfit { play (default_settings 0) [] (said_nonsense (Passed [])) ≡ said_nonsense_replies }
+    ensures program { play by_program [] program_died ≡ program_died_replies }
+    ensures each { play (default_settings 0) [] each_loses_one ≡ each_loses_one_replies }
+{}
+
+/// Where an answer is usable when a query is lost, it is repeated and nothing is asked. For a login that is over, nothing is
+/// asked again.
+pub fn lost_queries_look_at_the_cache()
+    ensures hit { play remembering [] lost_then_hit ≡ lost_then_hit_replies }
+    ensures asked { play remembering [] lost_then_asked ≡ lost_then_asked_replies }
+    ensures limit { play (default_settings 0) [] lost_at_limit ≡ lost_at_limit_replies }
+    ensures cancelled { play (default_settings 0) [] lost_after_cancel ≡ lost_after_cancel_replies }
 {}
