@@ -3,6 +3,7 @@
 #![tactic(auto)]
 
 mod hits;
+mod lost;
 mod recording;
 
 pub use hits::{Hit, after_hits, database_count, hit_for, hits_from, is_usable, newest};

@@ -1,6 +1,6 @@
 // What is recorded of an answer, and which answers are kept.
 
-ghost use Rattle.std.specs.Prelude.{◌≡◌, ◌<◌, ◌-◌, ◌^◌, ◌∷◌, IfOk, Bool, List, Some, OnOk};
+ghost use Rattle.std.specs.Prelude.{◌≡◌, ◌<◌, ◌-◌, ◌^◌, ◌∷◌, IfOk, Bool, List, Some, OnOk, length};
 ghost use Rattle.da_answers.specs.RecordedAnswers.{recorded_answer, is_kept, ttl_of, key_of, compared_by, answered_by, answers_request, after_answer_for, after_answer, kept_in};
 ghost use Rattle.da_base.specs.Words.{nth, changed_nth};
 ghost use Rattle.da_keys.specs.Keys.{with_key as keys_with};
@@ -10,6 +10,7 @@ ghost use Rattle.da_tables.specs.Queries.{with_comparison};
 ghost use Rattle.da_tables.specs.Tables.{with_query};
 ghost use Rattle.da_tables.specs.declared.queries.QueryRow.{QueryRow as SomeQueryRow};
 
+use crate::lost::{ask_again, is_kept_kind, is_lost};
 use da_fields::{Answer, QueryKind, Why};
 use da_keys::Key;
 use da_query::fit;
@@ -39,10 +40,7 @@ pub fn is_kept(kind: QueryKind, answer: &Answer) -> bool
     ensures { result ≡ is_kept kind answer.now }
 {
     match answer {
-        Answer::Found { .. } | Answer::Unknown => match kind {
-            QueryKind::Check => false,
-            QueryKind::Pass | QueryKind::User => true,
-        },
+        Answer::Found { .. } | Answer::Unknown => is_kept_kind(kind),
         _ => false,
     }
 }
@@ -134,8 +132,8 @@ pub(crate) fn answer_query(
     )
 }
 
-/// The request has this answer, and continues by it. One that was cancelled before it was decided has its late answer too, and
-/// doesn't continue.
+/// The request has this answer, and continues by it. One that was cancelled or timed out before its stage was decided has
+/// its late answer too, and doesn't continue.
 pub(crate) fn answer_request(
     number: u32,
     db: u32,
@@ -161,6 +159,7 @@ fn record_answer_for(
     answer: Answer,
     tables: &mut Tables,
 ) -> Result<InputEffect, AllocError>
+    requires { length tables.old.queries < 2 ^ 32 - 1 }
     ensures { (a : SomeQueryRow) → nth tables.old.queries number ≡ Some a → IfOk result (λ effect. with_effect tables.new effect ≡ after_answer_for settings.now moment number a answer tables.old) }
 {
     let Some(query_row) = tables.query(number) else {
@@ -168,12 +167,17 @@ fn record_answer_for(
     };
     let request = query_row.request;
     let db = query_row.question.db;
+    let is_lost = is_lost(tables.queries.all(), number, query_row, &answer);
     let same = answer.copy(alloc)?;
     answer_query(alloc, settings, moment, number, answer, tables)?;
+    if is_lost {
+        return Ok(ask_again(request, tables));
+    }
     answer_request(request, db, same, tables)
 }
 
-/// The answer to the query of this number is recorded, where that runs.
+/// The answer to the query of this number is recorded, where that runs. A lost one isn't its request's, which asks once
+/// more.
 pub fn record_answer(
     alloc: Global,
     settings: &Settings,
@@ -182,6 +186,7 @@ pub fn record_answer(
     answer: Answer,
     tables: &mut Tables,
 ) -> Result<InputEffect, AllocError>
+    requires { length tables.old.queries < 2 ^ 32 - 1 }
     ensures { IfOk result (λ effect. with_effect tables.new effect ≡ after_answer settings.now moment number answer (nth tables.old.queries number) tables.old) }
 {
     let Some(query_row) = tables.query(number) else {
