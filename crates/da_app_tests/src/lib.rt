@@ -22,6 +22,10 @@ mod tests_of_delays;
 #[cfg(test)]
 mod tests_of_handovers;
 #[cfg(test)]
+mod tests_of_limits;
+#[cfg(test)]
+mod tests_of_lost_queries;
+#[cfg(test)]
 mod tests_of_mechanisms;
 #[cfg(test)]
 mod tests_of_the_cache;

@@ -19,7 +19,7 @@ const HELD: &[u8] = b"e|5000|\n\
 |5000|1 open client -\n\
 |5000|2 line 1 - VERSION\t1\t1\n\
 |5000|3 line 1 - CPID\t4711\n\
-w|5000|10 line 1 - AUTH\t1\tPLAIN\tservice=imap\tresp=AGFsaWNlAHB3\n\
+wc|5000|10 line 1 - AUTH\t1\tPLAIN\tservice=imap\tresp=AGFsaWNlAHB3\n\
 rc|1009|10 take\n\
 rcl|1010|\n\
 rc|0|\n\
@@ -31,6 +31,22 @@ cd|2020|\n\
 |0|\n\
 e|9000|3000 gone 1";
 
+/// A login may take a hundred milliseconds.
+const SHORT: &[u8] = b"failure_delay = 2000\nquery_limit = 1000\nrequest_limit = 100\n";
+
+/// A login that takes too long, and whose query is late.
+const TIMED_OUT: &[u8] = b"|5000|1 open client -\n\
+|5000|2 line 1 - VERSION\t1\t1\n\
+|5000|3 line 1 - CPID\t4711\n\
+wc|109|10 line 1 - AUTH\t1\tPLAIN\tservice=imap\tresp=AGFsaWNlAHB3\n\
+wcd|110|\n\
+rc|109|10 take\n\
+rcd|110|\n\
+rcdl|1010|\n\
+rc|1009|110 tick\n\
+rcl|1010|\n\
+|9000|1010 late 1";
+
 /// The third entry is the last one.
 const FULL: &[u8] = b"|0|1 open client -\n|0|2 tick\nfe|0|3 tick\nfe|0|4 tick";
 
@@ -38,10 +54,10 @@ const FULL: &[u8] = b"|0|1 open client -\n|0|2 tick\nfe|0|3 tick\nfe|0|4 tick";
 const GOAL: &[u8] = b"|0|1 open client -\n\
 |0|2 line 1 - VERSION\t1\t1\n\
 |0|3 line 1 - CPID\t4711\n\
-w|0|10 line 1 - AUTH\t1\tPLAIN\tservice=imap\tresp=AGFsaWNlAHB3\n\
+wc|0|10 line 1 - AUTH\t1\tPLAIN\tservice=imap\tresp=AGFsaWNlAHB3\n\
 rc|0|11 take\n\
 |0|20 answer FOUND\t1\t{PLAIN}pw\n\
-w|0|21 line 1 - AUTH\t2\tPLAIN\tservice=imap\tresp=AGFsaWNlAHB3\n\
+wc|0|21 line 1 - AUTH\t2\tPLAIN\tservice=imap\tresp=AGFsaWNlAHB3\n\
 rc|0|22 take\n\
 rcoe|0|23 gone 1";
 
@@ -107,6 +123,12 @@ impl Look for Rows {
 #[test]
 fn replies_and_queries_come_due(rt: HostRuntime) -> Result<(), Fail> {
     assert!(rt; looks_right(rt.alloc(), SLOW, None, &Rows { rows: HELD })?);
+    Ok(())
+}
+
+#[test]
+fn the_limit_of_a_login_comes_due(rt: HostRuntime) -> Result<(), Fail> {
+    assert!(rt; looks_right(rt.alloc(), SHORT, None, &Rows { rows: TIMED_OUT })?);
     Ok(())
 }
 

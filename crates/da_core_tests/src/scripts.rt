@@ -2,7 +2,8 @@
 
 use crate::both::are_played_alike;
 use da_scripts::{
-    Case, connections, databases, delays, handovers, mechanisms, the_cache, whole_paths,
+    Case, connections, databases, delays, handovers, limits, lost_queries, mechanisms, the_cache,
+    whole_paths,
 };
 use std::alloc::{AllocError, Global};
 use std::test::Fail;
@@ -60,6 +61,33 @@ fn scripts_of_handovers_are_played_alike(rt: HostRuntime) -> Result<(), Fail> {
         &handovers::A_USED_ID_IS_NOT_GRANTED_AGAIN,
         &handovers::A_LOGIN_THAT_IS_LATE_OR_GONE_IS_NOT_HANDED_OVER,
         &handovers::FIELDS_OF_THE_PASSWORD_DATABASE_ARE_HANDED_OVER,
+    ];
+    assert!(rt; are_all_alike(rt.alloc(), &tables)?);
+    Ok(())
+}
+
+#[test]
+fn scripts_of_limits_are_played_alike(rt: HostRuntime) -> Result<(), Fail> {
+    let tables: [&[Case]; 7] = [
+        &limits::A_LOGIN_IS_TIMED_OUT_AT_ITS_LIMIT,
+        &limits::A_MESSAGE_RENEWS_NO_LIMIT,
+        &limits::AN_EVENT_AT_THE_LIMIT_COMES_TOO_LATE,
+        &limits::REPLIES_STAND_IN_THE_ORDER_OF_THEIR_MOMENTS,
+        &limits::A_TIMED_OUT_LOGIN_IS_HANDED_TO_NOBODY,
+        &limits::A_MASTERS_REQUEST_HAS_NO_LIMIT,
+        &limits::THE_ANSWER_TO_A_TIMED_OUT_LOGIN_IS_USED_AGAIN,
+    ];
+    assert!(rt; are_all_alike(rt.alloc(), &tables)?);
+    Ok(())
+}
+
+#[test]
+fn scripts_of_lost_queries_are_played_alike(rt: HostRuntime) -> Result<(), Fail> {
+    let tables: [&[Case]; 4] = [
+        &lost_queries::A_LOST_QUERY_IS_ASKED_ONCE_MORE,
+        &lost_queries::ANOTHER_FAILURE_COUNTS_AT_ONCE,
+        &lost_queries::A_LOST_QUERY_LOOKS_AT_THE_CACHE,
+        &lost_queries::A_LOST_QUERY_OF_A_LOGIN_THAT_IS_OVER_IS_NOT_ASKED_AGAIN,
     ];
     assert!(rt; are_all_alike(rt.alloc(), &tables)?);
     Ok(())

@@ -11,10 +11,13 @@ use std::alloc::{AllocError, Global};
 use std::sync::Wait;
 use std::test::Fail;
 
-// How often a thread looks at most. The clock looks again and again while a query runs.
+// How often a thread looks at most. The clock looks again and again while a login is undecided or a query runs.
 const TURNS: u32 = 20_000;
 
 const CLOCK_TURNS: u32 = 5_000_000;
+
+// The last moment of the clock, before any login has taken too long.
+const LAST_MOMENT: u64 = 140_000;
 
 // The lines of the greeting, a challenge, and a reply to each of three logins.
 const LINES: usize = 10;
@@ -114,7 +117,7 @@ fn is_needed<R: Wait>(rt: &R, port: &Port, seat: &mut Seat, mark: Mark) -> bool
     true
 }
 
-/// Does the work of the clock until the goal is met, by a clock of its own that runs fast.
+/// Does the work of the clock until the goal is met, by a clock of its own that runs fast up to its last moment.
 pub fn keep_time<R: Wait>(rt: &R, port: &Port, seat: &mut Seat, told: &mut Vec<u32>)
     requires { IsOf port.now seat.old × IsFree seat.old }
     ensures { IsOf port.now seat.new × IsFree seat.new }
@@ -126,7 +129,7 @@ pub fn keep_time<R: Wait>(rt: &R, port: &Port, seat: &mut Seat, told: &mut Vec<u
         if !is_needed(rt, port, seat, mark) {
             return;
         }
-        moment = moment.saturating_add(1000);
+        moment = moment.saturating_add(1000).min(LAST_MOMENT);
     }
 }
 

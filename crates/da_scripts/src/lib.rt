@@ -7,6 +7,8 @@ pub mod connections;
 pub mod databases;
 pub mod delays;
 pub mod handovers;
+pub mod limits;
+pub mod lost_queries;
 pub mod mechanisms;
 pub mod the_cache;
 pub mod whole_paths;

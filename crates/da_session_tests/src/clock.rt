@@ -129,6 +129,13 @@ fn time_passes_to_a_full_history_or_the_goal(rt: HostRuntime) {
             b"5 answer UNKNOWN\t1\n2005 tick\n",
         ),
         (
+            b"failure_delay = 2000\nrequest_limit = 1000\nhistory_entries = 6\n",
+            Before::Waits,
+            [5, 1004, 1005],
+            LoopEnd::Full,
+            b"5 take\n1005 tick\n",
+        ),
+        (
             b"history_entries = 2\n",
             Before::Leaves,
             [5, 6, 7],
