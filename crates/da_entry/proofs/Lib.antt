@@ -1,2 +1,3 @@
+pub mod Before
 mod NoHits
 pub mod Replays

@@ -1,25 +1,25 @@
 -- The answers of a request are those of distinct databases.
-use Rattle.std.proofs.Common.{◌≡◌, ◌⊎◌, inl, inr, refl, sym, ◌∙◌, ap, ap₂, subst, Option, Some, None, List, [], ◌∷◌, ◌++◌, ℕ, zero, suc, ◌+◌, ◌≤◌, Bool, true, false, cond, length, is_some, ◌==◌, option_map, option_and_then, true≢false, append_assoc, zero-le, arith}
+use Rattle.std.proofs.Common.{◌≡◌, ◌⊎◌, inl, inr, refl, sym, ◌∙◌, ap, ap₂, subst, Option, Some, None, List, [], ◌∷◌, ◌++◌, ℕ, zero, suc, ◌+◌, ◌≤◌, Bool, true, false, cond, not, ◌&&◌, length, is_some, ◌==◌, option_map, option_and_then, true≢false, append_assoc, zero-le, arith}
 use Rattle.std.proofs.lemmas.Bool.{eqb-true}
 use Rattle.std.proofs.lemmas.Option.{none-some, same_Some}
 use Rattle.da_invariants.proofs.AsksNew.{asks_new}
 use Rattle.da_tables.proofs.Cases.{by_test, and_second, not_true}
 use Rattle.da_play.proofs.EntryInduction.{ContinuedUndecided}
-use Rattle.da_play.proofs.EntryParts.{InputParts, ContinuedParts, IsSound, sound_input, continued_gives}
+use Rattle.da_play.proofs.EntryParts.{InputParts, ContinuedParts, IsSound, sound_input, before_gives, continued_gives}
 use Rattle.da_invariants.proofs.Keys.{keys_equal}
 use Rattle.da_invariants.proofs.KeysLaw.{newest_has}
 use Rattle.da_invariants.proofs.KnownHits.{usable_known, known_stays}
-use Rattle.da_invariants.proofs.OpenQueries.{AllAsked, history_asked, due_all_asked, nowhere}
+use Rattle.da_invariants.proofs.OpenQueries.{AllAsked, history_asked, before_all_asked, nowhere}
 use Rattle.da_tables.proofs.Rows.{of_changed, of_appended, of_mapped, passing, nth-changed}
-use Rattle.da_steps.proofs.Standing.{input_stands, continued_stands, due_stand, tables_later, all_same}
+use Rattle.da_steps.proofs.Standing.{input_stands, continued_stands, before_stands, tables_later, all_same}
 use Rattle.da_base.specs.Words.{nth, changed_nth, count_where, option_or_else}
 use Rattle.da_keys.specs.Keys.{same_key}
 use Rattle.da_keys.specs.declared.key.Key.{Key}
 use Rattle.da_fields.specs.Answers.{Answers, answer_from}
 use Rattle.da_fields.specs.declared.answer.Answer.{Answer}
-use Rattle.da_play.specs.History.{tables_of, after, after_input}
-use Rattle.da_tables.specs.Tables.{with_due_replied}
-use Rattle.da_request.specs.Requests.{with_decision, replied_if_due}
+use Rattle.da_play.specs.History.{tables_of, after, after_input, before_input}
+use Rattle.da_tables.specs.Tables.{with_due_replied, with_timed_out}
+use Rattle.da_request.specs.Requests.{is_over_limit, timed_out, timed_out_if_over, with_decision, replied_if_due}
 use Rattle.da_answers.specs.Hits.{AreHits, IsUsable, answer_of, with_hit, hit_with}
 use Rattle.da_play.specs.Legal.{IsLegal, ContinuedHits}
 use Rattle.da_request.specs.Requests.{new_request, with_text}
@@ -118,7 +118,7 @@ module _ (settings : Settings) (moment : ℕ) (before : Tables) (entered : Input
 
   late_is_new : (query : ℕ) (a : QueryRow) (answer : Answer) → nth before.queries query ≡ Some a → is_running a ≡ true → (r : Request) → nth before.requests a.request ≡ Some r →
       AreDistinct r.answers → AreDistinct (with_late_answer a.question.db answer r).answers
-  late_is_new query a answer is run r at d = by_test (λ (x : Request). AreDistinct x.answers) (is_some r.decided) r (with_answer a.question.db answer r) (λ e. d) (λ e. answer_is_new query a answer is run r at d)
+  late_is_new query a answer is run r at d = by_test (λ (x : Request). AreDistinct x.answers) (is_some r.decided && not r.is_timed_out) r (with_answer a.question.db answer r) (λ e. d) (λ e. answer_is_new query a answer is run r at d)
 
   input_distinct : InputParts settings moment before entered (λ tables m. AllDistinct tables.requests)
   input_distinct = record {
@@ -128,9 +128,10 @@ module _ (settings : Settings) (moment : ℕ) (before : Tables) (entered : Input
     cancels = λ n e p. changed_distinct cancelled before.requests n (λ r is d. d) p;
     texts = λ conn id random text m r is w p. changed_distinct (with_text text) before.requests _ (λ s at d. d) p;
     makes = λ conn id random body m p. made_distinct (new_request moment conn id random body) refl p;
-    takes = λ l p. p;
-    answers = λ query given a g is run u p. changed_distinct (with_answer a.question.db _) before.requests a.request (answer_is_new query a _ is run) p;
-    lates = λ query given a g is run u p. changed_distinct (with_late_answer a.question.db _) before.requests a.request (late_is_new query a _ is run) p;
+    loses = λ query given a g is run lost u p. p;
+    loses_late = λ query given a g is run lost u p. p;
+    answers = λ query given a g is run heard u p. changed_distinct (with_answer a.question.db _) before.requests a.request (answer_is_new query a _ is run) p;
+    lates = λ query given a g is run heard u p. changed_distinct (with_late_answer a.question.db _) before.requests a.request (late_is_new query a _ is run) p;
   }
 
   -- ---- hits
@@ -242,19 +243,31 @@ due_distinct settings moment tables p n r e = go (of_mapped (replied_if_due sett
     go : (s : Request) × (nth tables.requests n ≡ Some s) × (r ≡ replied_if_due settings moment s) → AreDistinct r.answers
     go (s, is, w) = subst AreDistinct (sym (ap (λ (x : Request). x.answers) w ∙ same_answers settings moment s)) (p n s is)
 
+timed_distinct : (settings : Settings) (moment : ℕ) (tables : Tables) → AllDistinct tables.requests → AllDistinct (with_timed_out settings moment tables).requests
+unfolding with_timed_out
+timed_distinct settings moment tables p n r e = go (of_mapped (timed_out_if_over settings moment) tables.requests n r e)
+  where
+    go : (s : Request) × (nth tables.requests n ≡ Some s) × (r ≡ timed_out_if_over settings moment s) → AreDistinct r.answers
+    go (s, is, w) = subst AreDistinct (sym (ap (λ (x : Request). x.answers) w ∙ by_test (λ (x : Request). x.answers ≡ s.answers) (is_over_limit settings moment s) (timed_out moment s) s (λ d. refl) (λ d. refl))) (p n s is)
+
+before_distinct : (settings : Settings) (moment : ℕ) (input : Input) (tables : Tables) → AllDistinct tables.requests → AllDistinct (before_input settings moment input tables).requests
+before_distinct settings moment input tables p =
+    before_gives settings moment tables input (λ t. AllDistinct t.requests) (λ t. AllDistinct t.requests) (λ t. AllDistinct t.requests)
+    (record { takes = λ is. p; stays = p; times_out = timed_distinct settings moment; replies = due_distinct settings moment })
+
 entry_distinct : (settings : Settings) (tables : Tables) (e : Entry) → AllAsked settings tables.requests tables.queries →
-    ContinuedHits settings e.moment tables (option_and_then (nth (after_input settings e.moment e.input (with_due_replied settings e.moment tables)).tables.requests) (after_input settings e.moment e.input (with_due_replied settings e.moment tables)).continued) e.hits →
+    ContinuedHits settings e.moment tables (option_and_then (nth (after_input settings e.moment e.input (before_input settings e.moment e.input tables)).tables.requests) (after_input settings e.moment e.input (before_input settings e.moment e.input tables)).continued) e.hits →
     AllDistinct tables.requests → AllDistinct (after settings tables e).requests
 unfolding after
 entry_distinct settings tables e asked hits p =
-    let before : Tables = with_due_replied settings e.moment tables in
+    let before : Tables = before_input settings e.moment e.input tables in
     let h : AfterInput = after_input settings e.moment e.input before in
-    let all : AllAsked settings before.requests before.queries = due_all_asked settings e.moment tables asked in
+    let all : AllAsked settings before.requests before.queries = before_all_asked settings e.moment e.input tables asked in
     let s : IsSound settings e.moment before e.input (λ x m. TablesStand before x) _ h =
     sound_input settings e.moment before e.input (λ x m. TablesStand before x) (input_stands settings e.moment before before e.input e.hits) e.input refl (all_same before) in
-    let t : TablesStand tables h.tables = tables_later tables before h.tables (due_stand settings e.moment tables) s.fact in
+    let t : TablesStand tables h.tables = tables_later tables before h.tables (before_stands settings e.moment e.input tables) s.fact in
     let d : IsSound settings e.moment before e.input (λ x m. AllDistinct x.requests) _ h =
-    sound_input settings e.moment before e.input (λ x m. AllDistinct x.requests) (input_distinct settings e.moment before e.input e.hits all) e.input refl (due_distinct settings e.moment tables p) in
+    sound_input settings e.moment before e.input (λ x m. AllDistinct x.requests) (input_distinct settings e.moment before e.input e.hits all) e.input refl (before_distinct settings e.moment e.input tables p) in
     continued_gives settings e.moment before e.input e.hits _ _ (continued_distinct settings e.moment before e.input e.hits all tables h.tables t) h
     (record { tables = t; all = d.fact; continued = to_come before h all t h.continued s.continued hits }) s.continued
   where

@@ -3,20 +3,20 @@ use Rattle.std.proofs.Common.{◌≡◌, ◌⊎◌, inl, inr, refl, sym, ◌∙�
 use Rattle.std.proofs.lemmas.Bool.Decides.{nat_tests}
 use Rattle.std.proofs.lemmas.Option.{none-some, same_Some}
 use Rattle.da_tables.proofs.Cases.{by_test}
-use Rattle.da_play.proofs.EntryParts.{InputParts, ContinuedParts, IsSound, sound_input, continued_gives, with_kept}
+use Rattle.da_play.proofs.EntryParts.{InputParts, ContinuedParts, IsSound, sound_input, before_gives, continued_gives, with_kept}
 use Rattle.da_invariants.proofs.Keys.{keys_equal, key_is, not_without, without_has, first_distinct, without_distinct, first_has, has_first, first_fits, without_fits, take_fits, take_count, take_has}
 use Rattle.da_tables.proofs.Rows.{passing, nth-changed}
-use Rattle.da_steps.proofs.Standing.{input_stands, continued_stands, due_stand, tables_later, all_same}
+use Rattle.da_steps.proofs.Standing.{input_stands, continued_stands, before_stands, tables_later, all_same}
 use Rattle.da_base.specs.Words.{nth, changed_nth, passes_option, count_where}
 use Rattle.da_keys.specs.Keys.{same_key, has_key, without_key, key_first, with_key}
 use Rattle.da_keys.specs.declared.key.Key.{Key}
 use Rattle.da_fields.specs.declared.answer.Answer.{Answer}
-use Rattle.da_play.specs.History.{tables_of, after, after_input}
-use Rattle.da_tables.specs.Tables.{with_due_replied}
+use Rattle.da_play.specs.History.{tables_of, after, after_input, before_input}
+use Rattle.da_tables.specs.Tables.{with_due_replied, with_timed_out}
 use Rattle.da_answers.specs.Hits.{AreHits, IsUsable, newest_among, with_hit, hit_with}
 use Rattle.da_invariants.specs.KeyLaws.{HasAnswer, KeysAreFit, KeysFit}
 use Rattle.da_play.specs.Legal.{IsLegal, ContinuedHits}
-use Rattle.da_answers.specs.RecordedAnswers.{key_of, ttl_of, recorded_answer, answered_by, after_answer, after_answer_for}
+use Rattle.da_answers.specs.RecordedAnswers.{key_of, ttl_of, recorded_answer, answered_by, after_answer, after_answer_for, is_lost}
 use Rattle.da_tables.specs.Queries.{is_running, is_running_in}
 use Rattle.da_play.specs.History.{Tells}
 use Rattle.da_request.specs.Requests.{is_undecided}
@@ -167,9 +167,10 @@ module _ (settings : Settings) (moment : ℕ) (before : Tables) (entered : Input
     cancels = λ n e p. record { cacheable = refl; keys = refl };
     texts = λ conn id random text m r is w p. record { cacheable = refl; keys = refl };
     makes = λ conn id random body m p. record { cacheable = refl; keys = refl };
-    takes = λ l p. record { cacheable = refl; keys = refl };
-    answers = λ query given a g is run u p. record { cacheable = refl; keys = refl };
-    lates = λ query given a g is run u p. record { cacheable = refl; keys = refl };
+    loses = λ query given a g is run lost u p. record { cacheable = refl; keys = refl };
+    loses_late = λ query given a g is run lost u p. record { cacheable = refl; keys = refl };
+    answers = λ query given a g is run heard u p. record { cacheable = refl; keys = refl };
+    lates = λ query given a g is run heard u p. record { cacheable = refl; keys = refl };
   }
 
 -- the answer to a running query is recorded with it
@@ -192,7 +193,9 @@ module _ (settings : Settings) (moment query : ℕ) (given : Answer) (before : T
   records_it : IsRecorded (after_answer settings moment query given (nth before.queries query) before).tables.queries query a answer moment
   records_it = subst (λ (o : Option QueryRow). IsRecorded (after_answer settings moment query given o before).tables.queries query a answer moment) (sym is)
       (subst (λ (b : Bool). IsRecorded (cond b (after_answer_for settings moment query a answer before) (continuing_none before)).tables.queries query a answer moment) (sym run)
-      (by_test (λ (h : AfterInput). IsRecorded h.tables.queries query a answer moment) (passes_option is_undecided (nth before.requests a.request)) _ _ (λ e. recorded_row) (λ e. recorded_row)))
+      (by_test (λ (h : AfterInput). IsRecorded h.tables.queries query a answer moment) (is_lost before.queries query a answer) _ _
+      (λ lost. by_test (λ (h : AfterInput). IsRecorded h.tables.queries query a answer moment) (passes_option is_undecided (nth before.requests a.request)) _ _ (λ e. recorded_row) (λ e. recorded_row))
+      (λ heard. by_test (λ (h : AfterInput). IsRecorded h.tables.queries query a answer moment) (passes_option is_undecided (nth before.requests a.request)) _ _ (λ e. recorded_row) (λ e. recorded_row))))
 
 -- the answer that an input tells of a running query is recorded with it
 pub told_is_recorded : (settings : Settings) (moment query : ℕ) (given : Answer) (before : Tables) (a : QueryRow) → nth before.queries query ≡ Some a → is_running a ≡ true → (input : Input) → Tells input query given →
@@ -383,20 +386,28 @@ module _ (settings : Settings) (moment : ℕ) (before hs : Tables) (entered : In
 
 -- ---- one entry, and a legal history
 
+-- what comes before an input's own effect leaves the cache as it is
+before_cache : (settings : Settings) (moment : ℕ) (input : Input) (tables : Tables) → SameCache tables (before_input settings moment input tables)
+unfolding with_due_replied with_timed_out
+before_cache settings moment input tables =
+    before_gives settings moment tables input (SameCache tables) (SameCache tables) (SameCache tables)
+    (record { takes = λ is. record { cacheable = refl; keys = refl }; stays = record { cacheable = refl; keys = refl }; times_out = λ t p. record { cacheable = p.cacheable; keys = p.keys }; replies = λ t p. record { cacheable = p.cacheable; keys = p.keys } })
+
 entry_fit : (settings : Settings) (tables : Tables) (e : Entry) →
-    ContinuedHits settings e.moment tables (option_and_then (nth (after_input settings e.moment e.input (with_due_replied settings e.moment tables)).tables.requests) (after_input settings e.moment e.input (with_due_replied settings e.moment tables)).continued) e.hits →
+    ContinuedHits settings e.moment tables (option_and_then (nth (after_input settings e.moment e.input (before_input settings e.moment e.input tables)).tables.requests) (after_input settings e.moment e.input (before_input settings e.moment e.input tables)).continued) e.hits →
     IsFit settings tables → IsFit settings (after settings tables e)
-unfolding after with_due_replied
+unfolding after
 entry_fit settings tables e hits f =
-    let before : Tables = with_due_replied settings e.moment tables in
+    let before : Tables = before_input settings e.moment e.input tables in
     let h : AfterInput = after_input settings e.moment e.input before in
     let s : IsSound settings e.moment before e.input (λ x m. TablesStand before x) _ h =
     sound_input settings e.moment before e.input (λ x m. TablesStand before x) (input_stands settings e.moment before before e.input e.hits) e.input refl (all_same before) in
     let c : IsSound settings e.moment before e.input (λ x m. SameCache before x) _ h =
     sound_input settings e.moment before e.input (λ x m. SameCache before x) (input_cache settings e.moment before e.input) e.input refl (untouched settings e.moment before e.input) in
-    let t : TablesStand tables h.tables = tables_later tables before h.tables (due_stand settings e.moment tables) s.fact in
-    let fit : IsFit settings h.tables = same_fit settings tables h.tables t.queries c.fact.cacheable c.fact.keys f in
-    let cached : AllCached h.tables e.hits = cached_later tables h.tables t.queries c.fact.keys e.hits (continued_cached settings e.moment tables _ e.hits hits) in
+    let b : SameCache tables before = before_cache settings e.moment e.input tables in
+    let t : TablesStand tables h.tables = tables_later tables before h.tables (before_stands settings e.moment e.input tables) s.fact in
+    let fit : IsFit settings h.tables = same_fit settings tables h.tables t.queries (c.fact.cacheable ∙ b.cacheable) (c.fact.keys ∙ b.keys) f in
+    let cached : AllCached h.tables e.hits = cached_later tables h.tables t.queries (c.fact.keys ∙ b.keys) e.hits (continued_cached settings e.moment tables _ e.hits hits) in
     let now : CacheNow settings e.moment before h.tables e.input e.hits fit cached _ h.tables = record {
       tables = all_same h.tables;
       cacheable = refl;

@@ -3,6 +3,8 @@ pub mod Distinct
 pub mod Keys
 pub mod KeysLaw
 pub mod KnownHits
+pub mod Marks
 pub mod Names
 pub mod OpenQueries
+pub mod SameStage
 pub mod Standing

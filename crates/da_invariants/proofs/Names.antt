@@ -1,5 +1,5 @@
 -- No two open clients have one process number, and no two requests of a connection one id.
-use Rattle.std.proofs.Common.{◌≡◌, ◌≢◌, map, ◌⊎◌, inl, inr, refl, sym, ◌∙◌, ap, subst, Option, Some, None, List, [], ◌∷◌, ◌++◌, ℕ, zero, suc, Bool, true, false, cond, length, is_some, true≢false, ◌==◌, ◌&&◌, ◌||◌, eq-eqb, option_map}
+use Rattle.std.proofs.Common.{◌≡◌, ◌≢◌, map, ◌⊎◌, inl, inr, refl, sym, ◌∙◌, ap, subst, Option, Some, None, List, [], ◌∷◌, ◌++◌, ℕ, zero, suc, Bool, true, false, cond, not, length, is_some, true≢false, ◌==◌, ◌&&◌, ◌||◌, eq-eqb, option_map}
 use Rattle.std.specs.List.{list_any}
 use Rattle.std.proofs.lemmas.Bool.{eqb-true}
 use Rattle.std.proofs.lemmas.Option.{none-some, same_Some}
@@ -7,19 +7,19 @@ use Rattle.da_base.specs.Words.{Bytes, hex, nth, changed_nth, number_where, one_
 use Rattle.da_msgs.specs.declared.kinds.ConnKind.{ConnKind}
 use Rattle.da_tables.proofs.Cases.{and_first, and_second, by_test}
 use Rattle.da_tables.proofs.Rows.{of_appended, of_changed, of_mapped}
-use Rattle.da_play.proofs.EntryParts.{ContinuedParts, InputParts, IsMade, IsSameConnection, MadeLogin, MadeLookup, TellsPid, an_entry_gives}
-use Rattle.da_play.specs.History.{tables_of}
+use Rattle.da_play.proofs.EntryParts.{ContinuedParts, InputParts, IsMade, IsSameConnection, MadeLogin, MadeLookup, TellsPid, an_entry_gives, before_gives}
+use Rattle.da_play.specs.History.{before_input, tables_of}
 use Rattle.da_play.specs.declared.input.Entry.{Entry}
 use Rattle.da_play.specs.declared.input.Input.{Input}
 use Rattle.da_invariants.specs.NameLaws.{IdsAreDistinct, ProcessNumbersAreDistinct}
 use Rattle.da_invariants.proofs.OpenQueries.{nowhere}
-use Rattle.da_request.specs.Requests.{as_cancelled_of, cancelled, is_due, is_of, new_request, replied_if_due, with_answer, with_decision, with_late_answer, with_text}
+use Rattle.da_request.specs.Requests.{as_cancelled_of, cancelled, is_due, is_of, is_over_limit, new_request, replied_if_due, timed_out, timed_out_if_over, with_answer, with_decision, with_late_answer, with_text}
 use Rattle.da_request.specs.declared.request.Body.{Body}
 use Rattle.da_request.specs.declared.request.Request.{Request}
 use Rattle.da_settings.specs.declared.settings.Settings.{Settings}
 use Rattle.std.specs.Prelude.{nat_lt}
 use Rattle.da_tables.specs.Connections.{has_pid, pending_count, request_number}
-use Rattle.da_tables.specs.Tables.{closed, is_client, with_due_replied, with_end}
+use Rattle.da_tables.specs.Tables.{closed, is_client, with_due_replied, with_end, with_timed_out}
 use Rattle.da_tables.specs.declared.connections.Connection.{Connection}
 use Rattle.da_tables.specs.declared.tables.Tables.{Tables}
 
@@ -37,7 +37,7 @@ any_at holds (y ∷ xs) (suc (suc n)) x is e = go (holds y) (any_at holds xs (su
     go false d = d
 
 -- where the number of the first row that passes is 0, none does
-none_passes : {A : Type 0} (holds : A → Bool) (xs : List A) (n : ℕ) (x : A) → number_where holds xs ≡ 0 → nth xs n ≡ Some x → holds x ≡ false
+pub none_passes : {A : Type 0} (holds : A → Bool) (xs : List A) (n : ℕ) (x : A) → number_where holds xs ≡ 0 → nth xs n ≡ Some x → holds x ≡ false
 none_passes holds [] n x e is = absurd (nowhere n x is)
 none_passes holds (y ∷ xs) zero x e is = absurd (none-some x is)
 none_passes {A} holds (y ∷ xs) (suc n) x e is = go (λ k d w. none_passes holds xs (suc k) x d w) (holds y) refl n is
@@ -149,9 +149,10 @@ module _ (settings : Settings) (moment : ℕ) (before : Tables) (entered : Input
     cancels = λ n e p. p;
     texts = λ conn id random text m r is w p. p;
     makes = λ conn id random body m p. p;
-    takes = λ l p. p;
-    answers = λ query given a g is run u p. p;
-    lates = λ query given a g is run u p. p;
+    loses = λ query given a g is run lost u p. p;
+    loses_late = λ query given a g is run lost u p. p;
+    answers = λ query given a g is run heard u p. p;
+    lates = λ query given a g is run heard u p. p;
   }
 
   continued_apart : ContinuedParts settings moment before entered hits apart_now apart_after
@@ -165,9 +166,11 @@ module _ (settings : Settings) (moment : ℕ) (before : Tables) (entered : Input
     kept = λ tables m query given a l run is k q. q;
   }
 
-due_apart : (settings : Settings) (moment : ℕ) (tables : Tables) → PidsAreApart tables.connections → PidsAreApart (with_due_replied settings moment tables).connections
-unfolding with_due_replied
-due_apart settings moment tables p = p
+before_apart : (settings : Settings) (moment : ℕ) (input : Input) (tables : Tables) → PidsAreApart tables.connections → PidsAreApart (before_input settings moment input tables).connections
+unfolding with_due_replied with_timed_out
+before_apart settings moment input tables p =
+    before_gives settings moment tables input (λ t. PidsAreApart t.connections) (λ t. PidsAreApart t.connections) (λ t. PidsAreApart t.connections)
+    (record { takes = λ is. p; stays = p; times_out = λ t q. q; replies = λ t q. q })
 
 start_apart : PidsAreApart []
 start_apart pid n m c d is at e f = absurd (nowhere n c is)
@@ -175,9 +178,9 @@ start_apart pid n m c d is at e f = absurd (nowhere n c is)
 all_apart : (settings : Settings) (h : List Entry) → PidsAreApart (tables_of settings h).connections
 all_apart settings [] = start_apart
 all_apart settings (e ∷ g) =
-    let before : Tables = with_due_replied settings e.moment (tables_of settings g) in
+    let before : Tables = before_input settings e.moment e.input (tables_of settings g) in
     an_entry_gives settings (tables_of settings g) e (apart_now settings e.moment before e.input e.hits) (apart_after settings e.moment before e.input e.hits)
-    (input_apart settings e.moment before e.input e.hits) (continued_apart settings e.moment before e.input e.hits) (due_apart settings e.moment (tables_of settings g) (all_apart settings g))
+    (input_apart settings e.moment before e.input e.hits) (continued_apart settings e.moment before e.input e.hits) (before_apart settings e.moment e.input (tables_of settings g) (all_apart settings g))
 
 pub process_numbers_are_distinct : ProcessNumbersAreDistinct
 process_numbers_are_distinct settings h = all_apart settings h
@@ -291,9 +294,10 @@ module _ (settings : Settings) (moment : ℕ) (before : Tables) (entered : Input
     cancels = λ n e p. changed_ids cancelled (record { conn = λ r. refl; id = λ r. refl }) before.requests n p;
     texts = λ conn id random text m r is w p. changed_ids (with_text text) (record { conn = λ r. refl; id = λ r. refl }) before.requests _ p;
     makes = λ conn id random body m p. made_ids conn id random body m p;
-    takes = λ l p. p;
-    answers = λ query given a g is run u p. changed_ids (with_answer a.question.db _) (record { conn = λ r. refl; id = λ r. refl }) before.requests a.request p;
-    lates = λ query given a g is run u p. changed_ids (with_late_answer a.question.db _) (either_keeps (λ r. is_some r.decided) (λ r. r) (with_answer a.question.db _) kept_as_it_is (record { conn = λ r. refl; id = λ r. refl })) before.requests a.request p;
+    loses = λ query given a g is run lost u p. p;
+    loses_late = λ query given a g is run lost u p. p;
+    answers = λ query given a g is run heard u p. changed_ids (with_answer a.question.db _) (record { conn = λ r. refl; id = λ r. refl }) before.requests a.request p;
+    lates = λ query given a g is run heard u p. changed_ids (with_late_answer a.question.db _) (either_keeps (λ r. is_some r.decided && not r.is_timed_out) (λ r. r) (with_answer a.question.db _) kept_as_it_is (record { conn = λ r. refl; id = λ r. refl })) before.requests a.request p;
   }
 
   continued_ids : ContinuedParts settings moment before entered hits ids_now ids_after
@@ -311,15 +315,25 @@ due_ids : (settings : Settings) (moment : ℕ) (tables : Tables) → IdsAreApart
 unfolding with_due_replied
 due_ids settings moment tables p = mapped_ids (replied_if_due settings moment) (due_keeps settings moment) tables.requests p
 
+timed_ids : (settings : Settings) (moment : ℕ) (tables : Tables) → IdsAreApart tables.requests → IdsAreApart (with_timed_out settings moment tables).requests
+unfolding with_timed_out
+timed_ids settings moment tables p =
+    mapped_ids (timed_out_if_over settings moment) (either_keeps (is_over_limit settings moment) (timed_out moment) (λ r. r) (record { conn = λ r. refl; id = λ r. refl }) kept_as_it_is) tables.requests p
+
+before_ids : (settings : Settings) (moment : ℕ) (input : Input) (tables : Tables) → IdsAreApart tables.requests → IdsAreApart (before_input settings moment input tables).requests
+before_ids settings moment input tables p =
+    before_gives settings moment tables input (λ t. IdsAreApart t.requests) (λ t. IdsAreApart t.requests) (λ t. IdsAreApart t.requests)
+    (record { takes = λ is. p; stays = p; times_out = timed_ids settings moment; replies = due_ids settings moment })
+
 start_ids : IdsAreApart []
 start_ids n m r s is at c i = absurd (nowhere n r is)
 
 all_ids : (settings : Settings) (h : List Entry) → IdsAreApart (tables_of settings h).requests
 all_ids settings [] = start_ids
 all_ids settings (e ∷ g) =
-    let before : Tables = with_due_replied settings e.moment (tables_of settings g) in
+    let before : Tables = before_input settings e.moment e.input (tables_of settings g) in
     an_entry_gives settings (tables_of settings g) e (ids_now settings e.moment before e.input e.hits) (ids_after settings e.moment before e.input e.hits)
-    (input_ids settings e.moment before e.input e.hits) (continued_ids settings e.moment before e.input e.hits) (due_ids settings e.moment (tables_of settings g) (all_ids settings g))
+    (input_ids settings e.moment before e.input e.hits) (continued_ids settings e.moment before e.input e.hits) (before_ids settings e.moment e.input (tables_of settings g) (all_ids settings g))
 
 pub ids_are_distinct : IdsAreDistinct
 ids_are_distinct settings h = all_ids settings h

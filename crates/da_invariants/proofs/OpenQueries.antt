@@ -2,14 +2,14 @@
 use Rattle.std.proofs.Common.{◌≡◌, ◌⊎◌, inl, inr, refl, sym, ◌∙◌, ap, subst, Option, Some, None, List, [], ◌∷◌, ◌++◌, ℕ, zero, suc, Bool, true, false, map, length, is_some, not, ◌&&◌, true≢false}
 use Rattle.std.proofs.lemmas.Option.{none-some, same_Some}
 use Rattle.da_tables.proofs.Cases.{by_test, and_first, and_second, not_true}
-use Rattle.da_play.proofs.EntryParts.{InputParts, ContinuedParts, an_entry_gives}
+use Rattle.da_play.proofs.EntryParts.{BeforeParts, InputParts, ContinuedParts, an_entry_gives, before_gives}
 use Rattle.da_tables.proofs.Rows.{of_changed, of_appended, nth-past, nth-unchanged}
 use Rattle.da_steps.proofs.Standing.{RowsStand, longer_rows, mapped_rows, changed_rows, undecided_is}
 use Rattle.da_base.specs.Words.{Bytes, nth, changed_nth}
 use Rattle.da_fields.specs.declared.answer.Answer.{Answer}
-use Rattle.da_play.specs.History.{tables_of, after}
-use Rattle.da_tables.specs.Tables.{with_due_replied}
-use Rattle.da_request.specs.Requests.{with_decision, replied_if_due}
+use Rattle.da_play.specs.History.{tables_of, after, before_input}
+use Rattle.da_tables.specs.Tables.{with_due_replied, with_timed_out}
+use Rattle.da_request.specs.Requests.{timed_out, timed_out_if_over, with_decision, replied_if_due}
 use Rattle.da_tables.specs.Queries.{as_taken}
 use Rattle.da_tables.specs.Queries.{used_again}
 use Rattle.da_answers.specs.Hits.{hit_comparison, hit_with}
@@ -18,7 +18,8 @@ use Rattle.da_request.specs.Requests.{with_answer, with_late_answer}
 use Rattle.da_answers.specs.RecordedAnswers.{answered_by, recorded_answer}
 use Rattle.da_tables.specs.Queries.{is_running, first_waiting}
 use Rattle.da_invariants.specs.QueryLaws.{IsAsked, OpenQueriesAreAsked}
-use Rattle.da_request.specs.Requests.{is_undecided, is_due, is_held, request_stage, body_stage, question_in, challenge_in}
+use Rattle.da_request.specs.Requests.{is_undecided, is_due, is_held, is_over_limit, request_stage, question_in, challenge_in}
+use Rattle.da_invariants.proofs.SameStage.{same_stage}
 use Rattle.da_tables.specs.Tables.{with_end}
 use Rattle.da_request.specs.Requests.{cancelled, as_cancelled_of, is_of}
 use Rattle.da_play.specs.declared.input.Entry.{Entry}
@@ -26,7 +27,6 @@ use Rattle.da_play.specs.declared.input.Input.{Input}
 use Rattle.da_settings.specs.declared.settings.Settings.{Settings}
 use Rattle.da_tables.specs.declared.queries.QueryRow.{QueryRow}
 use Rattle.da_request.specs.declared.request.Body.{Body}
-use Rattle.da_request.specs.declared.request.Body.TheVariants.{Authenticates, LooksUp}
 use Rattle.da_request.specs.declared.stages.Question.{Question}
 use Rattle.da_request.specs.declared.request.Request.{Request}
 use Rattle.da_request.specs.declared.stages.Stage.{Stage}
@@ -47,30 +47,27 @@ none_there (Some x) e = absurd (true≢false e)
 
 -- ---- other rows of requests
 
--- a request that isn't decided asks the same, and nothing was decided or replied
+-- a request asks the same, and where it isn't timed out, what wasn't decided is neither decided nor replied
 pub record AsksSame (settings : Settings) (r s : Request) : Type 0 where
-  pub decided : r.decided ≡ None → s.decided ≡ None
-  pub replied : r.decided ≡ None → s.replied ≡ r.replied
-  pub stage : r.decided ≡ None → request_stage settings s ≡ request_stage settings r
+  pub timed : s.is_timed_out ≡ false → r.is_timed_out ≡ false
+  pub decided : s.is_timed_out ≡ false → r.decided ≡ None → s.decided ≡ None
+  pub replied : s.is_timed_out ≡ false → r.decided ≡ None → s.replied ≡ r.replied
+  pub stage : request_stage settings s ≡ request_stage settings r
 
 module _ (settings : Settings) where
   asks_same : (r : Request) → AsksSame settings r r
-  asks_same r = record { decided = λ e. e; replied = λ e. refl; stage = λ e. refl }
+  asks_same r = record { timed = λ t. t; decided = λ t e. e; replied = λ t e. refl; stage = refl }
 
   asks_same_later : (a b c : Request) → AsksSame settings a b → AsksSame settings b c → AsksSame settings a c
   asks_same_later a b c f g = record {
-    decided = λ e. g.decided (f.decided e);
-    replied = λ e. g.replied (f.decided e) ∙ f.replied e;
-    stage = λ e. g.stage (f.decided e) ∙ f.stage e;
+    timed = λ t. f.timed (g.timed t);
+    decided = λ t e. g.decided t (f.decided (g.timed t) e);
+    replied = λ t e. g.replied t (f.decided (g.timed t) e) ∙ f.replied (g.timed t) e;
+    stage = g.stage ∙ f.stage;
   }
 
   cancelled_asks : (r : Request) → AsksSame settings r (cancelled r)
-  unfolding request_stage
-  cancelled_asks r = record { decided = λ e. e; replied = λ e. refl; stage = λ e. same_body r.body }
-    where
-      same_body : (b : Body) → body_stage settings (cancelled r) b ≡ body_stage settings r b
-      same_body (Authenticates mech params resp texts) = refl
-      same_body (LooksUp grant) = refl
+  cancelled_asks r = record { timed = λ t. t; decided = λ t e. e; replied = λ t e. refl; stage = same_stage settings r (cancelled r) refl refl refl refl }
 
   cancelled_of_asks : (conn : ℕ) (r : Request) → AsksSame settings r (as_cancelled_of conn r)
   cancelled_of_asks conn r = by_test (AsksSame settings r) (is_of conn r) (cancelled r) r (λ e. cancelled_asks r) (λ e. asks_same r)
@@ -81,7 +78,22 @@ module _ (settings : Settings) where
 
   due_asks : (moment : ℕ) (r : Request) → AsksSame settings r (replied_if_due settings moment r)
   due_asks moment r = by_test (AsksSame settings r) (is_due settings moment r) (record r { replied = Some moment }) r
-      (λ e. record { decided = λ d. d; replied = λ d. absurd (undecided_isn't_due moment r d e); stage = λ d. absurd (undecided_isn't_due moment r d e) })
+      (λ e. record {
+        timed = λ t. t;
+        decided = λ t d. d;
+        replied = λ t d. absurd (undecided_isn't_due moment r d e);
+        stage = same_stage settings r (record r { replied = Some moment }) refl refl refl refl;
+      })
+      (λ e. asks_same r)
+
+  timed_asks : (moment : ℕ) (r : Request) → AsksSame settings r (timed_out_if_over settings moment r)
+  timed_asks moment r = by_test (AsksSame settings r) (is_over_limit settings moment r) (timed_out moment r) r
+      (λ e. record {
+        timed = λ t. absurd (true≢false t);
+        decided = λ t d. absurd (true≢false t);
+        replied = λ t d. refl;
+        stage = same_stage settings r (timed_out moment r) refl refl refl refl;
+      })
       (λ e. asks_same r)
 
   other_requests : (rs ss : List Request) (qs : List QueryRow) → RowsStand (AsksSame settings) rs ss → AllAsked settings rs qs → AllAsked settings ss qs
@@ -91,9 +103,9 @@ module _ (settings : Settings) where
       record {
         request = now.0;
         is_there = now.1;
-        is_not_decided = now.2.decided was.is_not_decided;
-        is_not_replied = now.2.replied was.is_not_decided ∙ was.is_not_replied;
-        asks = ap question_in (now.2.stage was.is_not_decided) ∙ was.asks;
+        is_not_decided = λ t. now.2.decided t (was.is_not_decided (now.2.timed t));
+        is_not_replied = λ t. now.2.replied t (was.is_not_decided (now.2.timed t)) ∙ was.is_not_replied (now.2.timed t);
+        asks = ap question_in now.2.stage ∙ was.asks;
         is_only = was.is_only;
       }
 
@@ -192,8 +204,8 @@ module _ (settings : Settings) where
       go (inl (at, same)) = record {
         request = r;
         is_there = ap (λ (x : QueryRow). nth rs x.request) same ∙ is;
-        is_not_decided = none_there r.decided (undecided_is r u).0;
-        is_not_replied = none_there r.replied (undecided_is r u).1;
+        is_not_decided = λ t. none_there r.decided (undecided_is r u).0;
+        is_not_replied = λ t. none_there r.replied (undecided_is r u).1;
         asks = asks ∙ ap (λ (x : QueryRow). Some x.question) (sym same);
         is_only = λ m b x y z. only_new m b x y (z ∙ ap (λ (x : QueryRow). x.request) same) ∙ sym at;
       }
@@ -265,9 +277,12 @@ module _ (settings : Settings) (moment : ℕ) (before : Tables) (entered : Input
     none_left : NoneOf (changed_nth change before.queries query) (Some a.request)
     none_left = none_of_answered settings moment (nth before.requests a.request) answer before.requests before.queries query a is unanswered p
 
+    lost_asked : AllAsked settings before.requests (changed_nth change before.queries query)
+    lost_asked = changed_queries settings change (answered_keeps settings moment (nth before.requests a.request) answer) before.requests before.queries query p
+
     answered_asked : (f : Request → Request) → AllAsked settings (changed_nth f before.requests a.request) (changed_nth change before.queries query)
     answered_asked f = elsewhere settings f before.requests a.request (changed_nth change before.queries query)
-        (changed_queries settings change (answered_keeps settings moment (nth before.requests a.request) answer) before.requests before.queries query p) none_left
+        lost_asked none_left
 
   pub input_asked : InputParts settings moment before entered (λ tables m. AreAsked tables m)
   input_asked = record {
@@ -278,12 +293,16 @@ module _ (settings : Settings) (moment : ℕ) (before : Tables) (entered : Input
         (changed_rows (AsksSame settings) (asks_same settings) (asks_same_later settings) cancelled before.requests n (λ r x. cancelled_asks settings r)) p.all);
     texts = λ conn id random text m r is w p. text_asked _ text r is w p.all;
     makes = λ conn id random body m p. made_asked (new_request moment conn id random body) p.all;
-    takes = λ l p. quiet _ (changed_queries settings (as_taken moment) (taken_keeps settings moment) before.requests before.queries (first_waiting before) p.all);
-    answers = λ query given a g is run u p. record {
+    loses = λ query given a g is run lost u p. record {
+      all = lost_asked query (recorded_answer a.question.kind given) a is run p.all;
+      none = none_left query (recorded_answer a.question.kind given) a is run p.all;
+    };
+    loses_late = λ query given a g is run lost u p. quiet _ (lost_asked query (recorded_answer a.question.kind given) a is run p.all);
+    answers = λ query given a g is run heard u p. record {
       all = answered_asked query (recorded_answer a.question.kind given) a is run p.all (with_answer a.question.db (recorded_answer a.question.kind given));
       none = none_left query (recorded_answer a.question.kind given) a is run p.all;
     };
-    lates = λ query given a g is run u p. quiet _ (answered_asked query (recorded_answer a.question.kind given) a is run p.all (with_late_answer a.question.db (recorded_answer a.question.kind given)));
+    lates = λ query given a g is run heard u p. quiet _ (answered_asked query (recorded_answer a.question.kind given) a is run p.all (with_late_answer a.question.db (recorded_answer a.question.kind given)));
   }
 
   hit_asked : (tables : Tables) (continued number : ℕ) (a : QueryRow) (answer : Answer) → AreAsked tables (Some continued) → AreAsked (hit_with settings continued number a answer tables) (Some continued)
@@ -312,11 +331,27 @@ unfolding with_due_replied
 due_all_asked settings moment tables p = other_requests settings tables.requests (map (replied_if_due settings moment) tables.requests) tables.queries
     (mapped_rows (AsksSame settings) (asks_same settings) (asks_same_later settings) (replied_if_due settings moment) (due_asks settings moment) tables.requests) p
 
+timed_all_asked : (settings : Settings) (moment : ℕ) (tables : Tables) → AllAsked settings tables.requests tables.queries → AllAsked settings (with_timed_out settings moment tables).requests (with_timed_out settings moment tables).queries
+unfolding with_timed_out
+timed_all_asked settings moment tables p = other_requests settings tables.requests (map (timed_out_if_over settings moment) tables.requests) tables.queries
+    (mapped_rows (AsksSame settings) (asks_same settings) (asks_same_later settings) (timed_out_if_over settings moment) (timed_asks settings moment) tables.requests) p
+
+-- what comes before an input's own effect asks nothing
+pub before_all_asked : (settings : Settings) (moment : ℕ) (input : Input) (tables : Tables) → AllAsked settings tables.requests tables.queries →
+    AllAsked settings (before_input settings moment input tables).requests (before_input settings moment input tables).queries
+before_all_asked settings moment input tables p =
+    before_gives settings moment tables input (λ t. AllAsked settings t.requests t.queries) (λ t. AllAsked settings t.requests t.queries) (λ t. AllAsked settings t.requests t.queries) (record {
+      takes = λ is. changed_queries settings (as_taken moment) (taken_keeps settings moment) tables.requests tables.queries (first_waiting tables) p;
+      stays = p;
+      times_out = timed_all_asked settings moment;
+      replies = due_all_asked settings moment;
+    })
+
 pub entry_asked : (settings : Settings) (tables : Tables) (e : Entry) → AllAsked settings tables.requests tables.queries → AllAsked settings (after settings tables e).requests (after settings tables e).queries
 entry_asked settings tables e p =
-    let before : Tables = with_due_replied settings e.moment tables in
+    let before : Tables = before_input settings e.moment e.input tables in
     an_entry_gives settings tables e (asked_now settings e.moment before e.input e.hits) (all_asked settings e.moment before e.input e.hits)
-    (input_asked settings e.moment before e.input e.hits) (continued_asked settings e.moment before e.input e.hits) (record { all = due_all_asked settings e.moment tables p; none = tt })
+    (input_asked settings e.moment before e.input e.hits) (continued_asked settings e.moment before e.input e.hits) (record { all = before_all_asked settings e.moment e.input tables p; none = tt })
 
 pub nowhere : {A : Type 0} (k : ℕ) (a : A) → nth [] k ≡ Some a → ⊥
 nowhere zero a e = none-some a e

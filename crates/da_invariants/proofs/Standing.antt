@@ -1,16 +1,17 @@
 -- What is done stays, whatever comes later.
-use Rattle.std.proofs.Common.{◌≡◌, refl, sym, ◌∙◌, ap, Some, List, [], ◌∷◌, ◌++◌, ℕ, zero, suc, Bool, true, false, slice_get, ◌||◌, true≢false}
+use Rattle.std.proofs.Common.{◌≡◌, refl, sym, ◌∙◌, ap, Option, Some, List, [], ◌∷◌, ◌++◌, ℕ, zero, suc, Bool, true, false, codes, if◌then◌else◌, option_map, slice_get, ◌||◌, true≢false}
 use Rattle.std.specs.List.{list_any}
 use Rattle.std.proofs.lemmas.Option.{none-some, same_Some}
-use Rattle.da_base.specs.Words.{Bytes, nth}
-use Rattle.da_fields.specs.Answers.{Answers}
+use Rattle.da_base.specs.Words.{nth}
 use Rattle.da_tables.specs.Connections.{is_used}
 use Rattle.da_play.specs.History.{tables_of}
-use Rattle.da_request.specs.Requests.{is_granted_for, decision, decision_in, request_stage, body_stage}
+use Rattle.da_request.specs.Requests.{is_granted_for, decision, decision_in, request_stage, timed_failure}
+use Rattle.da_invariants.proofs.SameStage.{same_login, same_stage}
 use Rattle.da_settings.specs.declared.settings.Settings.{Settings}
-use Rattle.da_request.specs.declared.request.Body.{Body}
-use Rattle.da_request.specs.declared.request.Body.TheVariants.{Authenticates, LooksUp}
+use Rattle.da_passdb.specs.declared.login.Login.{Login}
 use Rattle.da_request.specs.declared.request.Request.{Request}
+use Rattle.da_request.specs.declared.stages.Decision.{Decision}
+use Rattle.da_request.specs.declared.stages.Decision.TheVariants.{Failure}
 use Rattle.da_invariants.specs.StandingLaws.{WhatIsDoneStands, UsedStaysUsed, DecisionsStand}
 use Rattle.da_steps.proofs.Standing.{entry_stands, tables_later, all_same}
 use Rattle.da_steps.specs.Standing.{RequestStands}
@@ -58,22 +59,22 @@ used_stays_used settings newer h n used = go (some_row (λ q. is_granted_for n q
 
 -- ---- what is decided
 
--- the stage depends on what the lines say of the request alone
-pub same_stage : (settings : Settings) (r s : Request) → s.random ≡ r.random → s.start ≡ r.start → s.body ≡ r.body → s.answers ≡ r.answers → request_stage settings s ≡ request_stage settings r
-unfolding request_stage
-same_stage settings r s x t b a =
-    ap (body_stage settings s) b
-    ∙ ap (λ (o : Answers). body_stage settings (record s { answers = o }) r.body) a
-    ∙ ap (λ (o : Bytes). body_stage settings (record s { answers = r.answers; random = o }) r.body) x
-    ∙ ap (λ (o : ℕ). body_stage settings (record s { answers = r.answers; random = r.random; start = o }) r.body) t
-    ∙ stage_by r.body
-  where
-    stage_by : (b : Body) → body_stage settings (record s { answers = r.answers; random = r.random; start = r.start }) b ≡ body_stage settings r b
-    stage_by (Authenticates mech params resp texts) = refl
-    stage_by (LooksUp grant) = refl
+abbrev timed_failure_for : Option Login → Decision
+timed_failure_for login = Failure (option_map (λ l. l.user) login) false false false (Some (codes "Timed out"))
 
+-- what is decided by its limit is told for the same user, and what is decided by its stage has the same stage
 pub decisions_stand : DecisionsStand
 unfolding decision
 decisions_stand settings newer h n r e d =
     let later : (s : Request) × (nth (tables_of settings (newer ++ h)).requests n ≡ Some s) × RequestStands r s = (what_is_done_stands settings newer h).requests n r e in
-    (later.0, later.1, ap decision_in (same_stage settings r later.0 later.2.random later.2.start (later.2.body d) (later.2.answers d)))
+    (later.0, later.1, by_mark later.0 later.2 r.is_timed_out refl)
+  where
+    by_mark : (s : Request) → RequestStands r s → (b : Bool) → r.is_timed_out ≡ b → decision settings s ≡ decision settings r
+    by_mark s k true t =
+        ap (λ (b : Bool). if b then Some (timed_failure settings s) else decision_in (request_stage settings s)) (k.timed_out d ∙ t)
+        ∙ ap (λ l. Some (timed_failure_for l)) (same_login settings r s k.random k.start (k.body d))
+        ∙ sym (ap (λ (b : Bool). if b then Some (timed_failure settings r) else decision_in (request_stage settings r)) t)
+    by_mark s k false t =
+        ap (λ (b : Bool). if b then Some (timed_failure settings s) else decision_in (request_stage settings s)) (k.timed_out d ∙ t)
+        ∙ ap decision_in (same_stage settings r s k.random k.start (k.body d) (k.answers d t))
+        ∙ sym (ap (λ (b : Bool). if b then Some (timed_failure settings r) else decision_in (request_stage settings r)) t)

@@ -16,8 +16,8 @@ use Rattle.da_passdb.specs.declared.login.Proof.{Proof}
 use Rattle.da_passdb.specs.declared.login.Proof.TheVariants.{Plain, Cram, Scram}
 use Rattle.da_laws.specs.ComparisonLaws.{IsRecordedAnswer, IsCompared, ComparisonsAreOfPasswords, HintsAreCompared}
 use Rattle.da_play.specs.Comparing.{Compared, use_compares, known_answer, first_of_two, compares_from, recorded_compares, own_compares, compares_after, entry_compares, hint}
-use Rattle.da_play.specs.History.{tables_of, after_input}
-use Rattle.da_tables.specs.Tables.{with_due_replied}
+use Rattle.da_play.specs.History.{after_input, before_input, tables_of}
+use Rattle.da_tables.specs.Tables.{with_due_replied, with_timed_out}
 use Rattle.da_answers.specs.Hits.{hit_for, with_hit, database_count}
 use Rattle.da_play.specs.Legal.{entry_moment}
 use Rattle.da_play.specs.Play.{refusal}
@@ -153,7 +153,7 @@ module _ (settings : Settings) (moment : ℕ) (tables : Tables) (input : Input) 
               hit : (number : ℕ) × (hit_for settings moment tables r q ≡ Some number) × (compares_from n settings moment tables (with_hit tables q number r) ≡ Some c) → IsCompared settings moment tables input c
               hit (number, at, z) = further (with_hit tables q number r) z
 
-  module _ (before : Tables) (same : before.queries ≡ tables.queries) where
+  module _ (before : Tables) (same : (query : ℕ) (given : Answer) → input ≡ Answered query given → before.queries ≡ tables.queries) where
     from_row : (query : ℕ) (given : Answer) → input ≡ Answered query given → (o : Option QueryRow) → nth before.queries query ≡ o → recorded_compares settings before given o ≡ Some c → IsCompared settings moment tables input c
     from_row query given l None is e = absurd (none-some c e)
     from_row query given l (Some a) is e = go (gives (is_running a && passes_option is_undecided (nth before.requests a.request)) _ e)
@@ -167,7 +167,7 @@ module _ (settings : Settings) (moment : ℕ) (tables : Tables) (input : Input) 
           where
             of_request : (r : Request) × (nth before.requests a.request ≡ Some r) × (use_compares settings r a.question (recorded_answer a.question.kind given) ≡ Some c) → IsCompared settings moment tables input c
             of_request (r, at, y) = compared r a.question (recorded_answer a.question.kind given) y
-                (inl (record { query = query; given = given; is_answered = l; row = a; is_there = ap (λ (qs : List QueryRow). nth qs query) (sym same) ∙ is; asks = refl; is_answer_recorded = refl }))
+                (inl (record { query = query; given = given; is_answered = l; row = a; is_there = ap (λ (qs : List QueryRow). nth qs query) (sym (same query given l)) ∙ is; asks = refl; is_answer_recorded = refl }))
 
     from_own : (i : Input) → input ≡ i → own_compares settings before i ≡ Some c → IsCompared settings moment tables input c
     from_own (Opened kind random) l e = absurd (none-some c e)
@@ -179,16 +179,24 @@ module _ (settings : Settings) (moment : ℕ) (tables : Tables) (input : Input) 
     from_own (Late query) l e = absurd (none-some c e)
     from_own Tick l e = absurd (none-some c e)
 
+-- where an answer comes, no query is handed out before it
+same_queries : (settings : Settings) (moment : ℕ) (tables : Tables) (query : ℕ) (given : Answer) → (before_input settings moment (Answered query given) tables).queries ≡ tables.queries
+unfolding before_input with_due_replied with_timed_out
+same_queries settings moment tables query given = refl
+
+answered_queries : (settings : Settings) (moment : ℕ) (tables : Tables) (input : Input) (query : ℕ) (given : Answer) → input ≡ Answered query given → (before_input settings moment input tables).queries ≡ tables.queries
+answered_queries settings moment tables input query given l = ap (λ (i : Input). (before_input settings moment i tables).queries) l ∙ same_queries settings moment tables query given
+
 what_entries_compare : (settings : Settings) (g : List Entry) (moment : ℕ) (input : Input) (c : Compared) → entry_compares settings g moment input ≡ Some c → IsCompared settings moment (tables_of settings g) input c
-unfolding entry_compares with_due_replied
+unfolding entry_compares
 what_entries_compare settings g moment input c e =
-    which (either settings moment (tables_of settings g) input c (own_compares settings (with_due_replied settings moment (tables_of settings g)) input) (compares_after settings moment (tables_of settings g) (after_input settings moment input (with_due_replied settings moment (tables_of settings g)))) e)
+    which (either settings moment (tables_of settings g) input c (own_compares settings (before_input settings moment input (tables_of settings g)) input) (compares_after settings moment (tables_of settings g) (after_input settings moment input (before_input settings moment input (tables_of settings g)))) e)
   where
-    which : (own_compares settings (with_due_replied settings moment (tables_of settings g)) input ≡ Some c) ⊎ (compares_after settings moment (tables_of settings g) (after_input settings moment input (with_due_replied settings moment (tables_of settings g))) ≡ Some c) → IsCompared settings moment (tables_of settings g) input c
-    which (inl x) = from_own settings moment (tables_of settings g) input c (with_due_replied settings moment (tables_of settings g)) refl input refl x
-    which (inr x) = of_continued (chained (compares_from (database_count settings) settings moment (tables_of settings g)) (option_and_then (nth (after_input settings moment input (with_due_replied settings moment (tables_of settings g))).tables.requests) (after_input settings moment input (with_due_replied settings moment (tables_of settings g))).continued) c x)
+    which : (own_compares settings (before_input settings moment input (tables_of settings g)) input ≡ Some c) ⊎ (compares_after settings moment (tables_of settings g) (after_input settings moment input (before_input settings moment input (tables_of settings g))) ≡ Some c) → IsCompared settings moment (tables_of settings g) input c
+    which (inl x) = from_own settings moment (tables_of settings g) input c (before_input settings moment input (tables_of settings g)) (answered_queries settings moment (tables_of settings g) input) input refl x
+    which (inr x) = of_continued (chained (compares_from (database_count settings) settings moment (tables_of settings g)) (option_and_then (nth (after_input settings moment input (before_input settings moment input (tables_of settings g))).tables.requests) (after_input settings moment input (before_input settings moment input (tables_of settings g))).continued) c x)
       where
-        of_continued : (r : Request) × (option_and_then (nth (after_input settings moment input (with_due_replied settings moment (tables_of settings g))).tables.requests) (after_input settings moment input (with_due_replied settings moment (tables_of settings g))).continued ≡ Some r) × (compares_from (database_count settings) settings moment (tables_of settings g) r ≡ Some c) → IsCompared settings moment (tables_of settings g) input c
+        of_continued : (r : Request) × (option_and_then (nth (after_input settings moment input (before_input settings moment input (tables_of settings g))).tables.requests) (after_input settings moment input (before_input settings moment input (tables_of settings g))).continued ≡ Some r) × (compares_from (database_count settings) settings moment (tables_of settings g) r ≡ Some c) → IsCompared settings moment (tables_of settings g) input c
         of_continued (r, at, y) = from_chain settings moment (tables_of settings g) input c (database_count settings) r y
 
 pub hints_are_compared : HintsAreCompared

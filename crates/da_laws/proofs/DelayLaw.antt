@@ -1,5 +1,5 @@
 -- How long final replies are held back, from the laws on what is due.
-use Rattle.std.proofs.Common.{◌≡◌, ◌⊎◌, inl, inr, refl, sym, ◌∙◌, ap, ap₂, subst, Option, Some, None, List, [], ◌∷◌, ℕ, zero, suc, ◌≤◌, Bool, true, false, cond, not, ◌&&◌, ◌||◌, nat_le, option_map, is_some, true≢false, arith}
+use Rattle.std.proofs.Common.{◌≡◌, ◌⊎◌, inl, inr, refl, sym, ◌∙◌, ap, ap₂, subst, Option, Some, None, List, [], ◌∷◌, ℕ, zero, suc, ◌≤◌, Bool, true, false, cond, not, ◌&&◌, ◌||◌, nat_le, option_map, if◌then◌else◌, is_some, true≢false, arith}
 use Rattle.std.specs.List.{list_any}
 use Rattle.std.proofs.lemmas.Bool.Decides.{nat_tests}
 use Rattle.std.proofs.lemmas.Option.{none-some, same_Some}
@@ -7,11 +7,14 @@ use Rattle.da_base.specs.Words.{Bytes, later, nth, passes_option}
 use Rattle.da_settings.specs.declared.settings.Settings.{Settings}
 use Rattle.da_request.specs.declared.stages.Decision.TheVariants.{Failure}
 use Rattle.da_request.specs.declared.request.Request.{Request}
-use Rattle.da_request.specs.Requests.{decision, has_nodelay, is_failure, reply_delay, due_moment, is_held, is_due}
+use Rattle.da_request.specs.Requests.{decision, due_from, has_nodelay, is_failure, limit_moment, reply_delay, due_moment, is_held, is_due}
 use Rattle.da_laws.specs.DelayLaws.{FailuresWait, NoneWaitsLonger, OthersAreToldAtOnce}
+use Rattle.da_invariants.proofs.Marks.{history_marked}
 use Rattle.da_tables.proofs.Cases.{by_test}
 use Rattle.da_laws.proofs.DueLaw.{nothing_due_is_left}
 use Rattle.da_laws.proofs.ReplyDue.{replies_are_due}
+use Rattle.da_play.specs.History.{tables_of}
+use Rattle.da_play.specs.declared.input.Entry.{Entry}
 
 at_most : (m n : ℕ) → nat_le m n ≡ true → m ≤ n
 at_most m n e = grind (arith, nat_tests, e)
@@ -47,16 +50,21 @@ others_rush settings r (inr e) =
 
 -- ---- a reply in time
 
-decided_in_time : (moment span : ℕ) (o : Option ℕ) → passes_option (λ m. nat_le m moment) (option_map (λ m. later m span) o) ≡ true →
-    (decided : ℕ) × (o ≡ Some decided) × (later decided span ≤ moment)
-decided_in_time moment span None e = absurd (true≢false (sym e))
-decided_in_time moment span (Some decided) e = (decided, refl, at_most (later decided span) moment e)
+-- the reply to a request that wasn't timed out is due after its delay
+due_after : (settings : Settings) (r : Request) (decided : ℕ) → r.is_timed_out ≡ false → due_from settings r decided ≡ later decided (reply_delay settings r)
+due_after settings r decided t = ap (λ (b : Bool). if b then limit_moment settings r else later decided (reply_delay settings r)) t
+
+decided_in_time : (settings : Settings) (moment : ℕ) (r : Request) → r.is_timed_out ≡ false → (o : Option ℕ) → passes_option (λ m. nat_le m moment) (option_map (due_from settings r) o) ≡ true →
+    (decided : ℕ) × (o ≡ Some decided) × (later decided (reply_delay settings r) ≤ moment)
+decided_in_time settings moment r t None e = absurd (true≢false (sym e))
+decided_in_time settings moment r t (Some decided) e =
+    (decided, refl, subst (λ (due : ℕ). due ≤ moment) (due_after settings r decided t) (at_most (due_from settings r decided) moment e))
 
 pub failures_wait : FailuresWait
-failures_wait settings e g n r user authz temp disabled reason reported here failed delays =
+failures_wait settings e g n r user authz temp disabled reason reported here failed delays unlimited =
     let due = replies_are_due settings e g n reported in
     let same : due.0 ≡ r = same_Some due.0 r (sym due.1 ∙ here) in
-    let in_time = decided_in_time e.moment (reply_delay settings r) r.decided
+    let in_time = decided_in_time settings e.moment r unlimited r.decided
     (subst (λ (s : Request). passes_option (λ m. nat_le m e.moment) (due_moment settings s) ≡ true) same due.4) in
     (in_time.0, in_time.1, subst (λ span. later in_time.0 span ≤ e.moment) (failure_delays settings r user authz temp disabled reason failed delays) in_time.2)
 
@@ -77,10 +85,10 @@ none_at comparison (s ∷ rs) (suc (suc n)) r e here = none_at comparison rs (su
     rest false b e = e
 
 -- a request that isn't due, though its moment has come, has its reply
-was_told : (settings : Settings) (moment decided : ℕ) (r : Request) → is_due settings moment r ≡ false → r.decided ≡ Some decided → r.is_cancelled ≡ false →
+was_told : (settings : Settings) (moment decided : ℕ) (r : Request) → is_due settings moment r ≡ false → r.decided ≡ Some decided → r.is_cancelled ≡ false → r.is_timed_out ≡ false →
     later decided (reply_delay settings r) ≤ moment → is_some r.replied ≡ true
 unfolding is_due
-was_told settings moment decided r rests at stays in_time = go (is_some r.replied) refl
+was_told settings moment decided r rests at stays unlimited in_time = go (is_some r.replied) refl
   where
     go : (b : Bool) → is_some r.replied ≡ b → is_some r.replied ≡ true
     go true e = e
@@ -94,7 +102,17 @@ was_told settings moment decided r rests at stays in_time = go (is_some r.replie
         held_and_due : (is_held r && passes_option (λ m. nat_le m moment) (due_moment settings r)) ≡ true
         held_and_due =
             ap₂ (λ x y. x && y) held
-            (ap (λ o. passes_option (λ m. nat_le m moment) (option_map (λ m. later m (reply_delay settings r)) o)) at ∙ is_at_most (later decided (reply_delay settings r)) moment in_time)
+            (ap (λ o. passes_option (λ m. nat_le m moment) (option_map (due_from settings r) o)) at
+            ∙ ap (λ (due : ℕ). nat_le due moment) (due_after settings r decided unlimited) ∙ is_at_most (later decided (reply_delay settings r)) moment in_time)
+
+-- one that was timed out has it already
+told_by : (settings : Settings) (e : Entry) (g : List Entry) (n decided : ℕ) (r : Request) → nth (tables_of settings (e ∷ g)).requests n ≡ Some r → r.decided ≡ Some decided → r.is_cancelled ≡ false →
+    (r.is_timed_out ≡ false → later decided (reply_delay settings r) ≤ e.moment) → is_some r.replied ≡ true
+told_by settings e g n decided r here at stays in_time = go r.is_timed_out refl
+  where
+    go : (b : Bool) → r.is_timed_out ≡ b → is_some r.replied ≡ true
+    go true t = (history_marked settings (e ∷ g) n r here).replied t
+    go false t = was_told settings e.moment decided r (none_at _ _ n r (nothing_due_is_left settings e g) here) at stays t (in_time t)
 
 later_within : (decided a b moment : ℕ) → a ≤ b → later decided b ≤ moment → later decided a ≤ moment
 later_within decided a b moment h k = omega (arith, h, k)
@@ -104,10 +122,16 @@ later_none decided moment h = omega (arith, h)
 
 pub none_waits_longer : NoneWaitsLonger
 none_waits_longer settings e g n decided r here at stays in_time =
-    was_told settings e.moment decided r (none_at _ _ n r (nothing_due_is_left settings e g) here) at stays
-    (later_within decided (reply_delay settings r) settings.failure_delay e.moment (within_delay settings r) in_time)
+    told_by settings e g n decided r here at stays
+    (λ t. later_within decided (reply_delay settings r) settings.failure_delay e.moment (within_delay settings r) in_time)
 
 pub others_are_told_at_once : OthersAreToldAtOnce
-others_are_told_at_once settings e g n decided r here at stays rushes by =
-    was_told settings e.moment decided r (none_at _ _ n r (nothing_due_is_left settings e g) here) at stays
-    (subst (λ span. later decided span ≤ e.moment) (sym (others_rush settings r rushes)) (later_none decided e.moment by))
+others_are_told_at_once settings e g n decided r here at stays rushes by = told_by settings e g n decided r here at stays (λ t. in_time t rushes)
+  where
+    at_once : (passes_option is_failure (decision settings r) ≡ false) ⊎ (has_nodelay r.answers ≡ true) → later decided (reply_delay settings r) ≤ e.moment
+    at_once rush = subst (λ span. later decided span ≤ e.moment) (sym (others_rush settings r rush)) (later_none decided e.moment by)
+
+    in_time : r.is_timed_out ≡ false → (passes_option is_failure (decision settings r) ≡ false) ⊎ ((has_nodelay r.answers ≡ true) ⊎ (r.is_timed_out ≡ true)) → later decided (reply_delay settings r) ≤ e.moment
+    in_time t (inl x) = at_once (inl x)
+    in_time t (inr (inl x)) = at_once (inr x)
+    in_time t (inr (inr x)) = absurd (true≢false (sym x ∙ t))

@@ -1,16 +1,17 @@
 -- After an entry no reply that is due is left over.
-use Rattle.std.proofs.Common.{◌≡◌, refl, ◌∙◌, ap, ap₂, Some, List, [], ◌∷◌, ◌++◌, ℕ, zero, suc, Bool, true, false, cond, not, ◌&&◌, ◌||◌, map, is_some, true≢false, nat_le}
+use Rattle.std.proofs.Common.{◌≡◌, refl, sym, ◌∙◌, ap, ap₂, Option, Some, None, option_map, if◌then◌else◌, List, [], ◌∷◌, ◌++◌, ℕ, zero, suc, Bool, true, false, cond, not, ◌&&◌, ◌||◌, map, is_some, true≢false, nat_le}
 use Rattle.std.specs.List.{list_any}
 use Rattle.da_tables.proofs.Cases.{by_test, and_second, not_true}
 use Rattle.da_play.proofs.EntryInduction.{EachPartKeeps, after_part_one}
-use Rattle.da_base.specs.Words.{nth, changed_at, changed_nth, passes_option}
+use Rattle.da_play.proofs.EntryParts.{before_gives}
+use Rattle.da_base.specs.Words.{later, nth, changed_at, changed_nth, passes_option}
 use Rattle.da_fields.specs.declared.answer.Answer.{Answer}
-use Rattle.da_play.specs.History.{tables_of}
+use Rattle.da_play.specs.History.{before_input, tables_of}
 use Rattle.da_tables.specs.Tables.{with_due_replied}
 use Rattle.da_request.specs.Requests.{with_decision}
 use Rattle.da_request.specs.Requests.{with_answer}
 use Rattle.da_laws.specs.ReplyLaws.{NothingDueIsLeft}
-use Rattle.da_request.specs.Requests.{is_due, is_held, due_moment, is_undecided}
+use Rattle.da_request.specs.Requests.{is_due, is_held, due_from, due_moment, is_undecided, limit_moment, reply_delay}
 use Rattle.da_request.specs.Requests.{is_of}
 use Rattle.da_play.specs.declared.input.Input.{Input}
 use Rattle.da_settings.specs.declared.settings.Settings.{Settings}
@@ -108,10 +109,28 @@ answered_now : (settings : Settings) (moment : ℕ) (r : Request) → is_due set
 answered_now settings moment r = by_test (λ s. is_due settings moment s ≡ false) (is_due settings moment r) (record r { replied = Some moment }) r
     (λ e. unheld settings moment (record r { replied = Some moment }) (replied_unheld r moment)) (λ e. e)
 
--- a late answer is one of a request that isn't decided, so it isn't held
+-- the reply to a request that was timed out is due at its limit
+pub due_at_limit : (settings : Settings) (r : Request) (decided : ℕ) → r.is_timed_out ≡ true → due_from settings r decided ≡ limit_moment settings r
+due_at_limit settings r decided t = ap (λ (b : Bool). if b then limit_moment settings r else later decided (reply_delay settings r)) t
+
+pub answered_due : (settings : Settings) (db : ℕ) (answer : Answer) (r : Request) → r.is_timed_out ≡ true → (o : Option ℕ) → option_map (due_from settings (with_answer db answer r)) o ≡ option_map (due_from settings r) o
+answered_due settings db answer r t None = refl
+answered_due settings db answer r t (Some d) = ap (λ (m : ℕ). Some m) (due_at_limit settings (with_answer db answer r) d t ∙ sym (due_at_limit settings r d t))
+
+-- a late answer is one of a request that isn't decided, so it isn't held, or that was timed out, whose reply was due at its
+-- limit
 late_rests : (settings : Settings) (moment db : ℕ) (answer : Answer) (r : Request) → is_due settings moment r ≡ false → is_due settings moment (with_late_answer db answer r) ≡ false
-late_rests settings moment db answer r e = by_test (λ s. is_due settings moment s ≡ false) (is_some r.decided) r (with_answer db answer r)
-    (λ w. e) (λ w. unheld settings moment (with_answer db answer r) (ap (λ b. b && not r.is_cancelled && not (is_some r.replied)) w))
+unfolding is_due
+late_rests settings moment db answer r e = by_test (λ s. is_due settings moment s ≡ false) (is_some r.decided && not r.is_timed_out) r (with_answer db answer r)
+    (λ w. e) (λ w. go r.is_timed_out refl w)
+  where
+    open_still : (b : Bool) → r.is_timed_out ≡ false → (b && not r.is_timed_out) ≡ false → b ≡ false
+    open_still true t w = absurd (true≢false (sym (ap not t) ∙ w))
+    open_still false t w = refl
+
+    go : (b : Bool) → r.is_timed_out ≡ b → (is_some r.decided && not r.is_timed_out) ≡ false → is_due settings moment (with_answer db answer r) ≡ false
+    go true t w = ap (λ (o : Option ℕ). is_held r && passes_option (λ due. nat_le due moment) o) (answered_due settings db answer r t r.decided) ∙ e
+    go false t w = unheld settings moment (with_answer db answer r) (ap (λ b. b && not r.is_cancelled && not (is_some r.replied)) (open_still (is_some r.decided) t w))
 
 parts_keep : (settings : Settings) (moment : ℕ) (origin : Tables) (entered : Input) → EachPartKeeps settings moment origin entered (Rested settings moment)
 parts_keep settings moment origin entered = record {
@@ -122,7 +141,7 @@ parts_keep settings moment origin entered = record {
   end = λ rs conn q. rested_map settings moment (λ r. cond (is_of conn r) (cancelled r) r)
       (λ r e. by_test (λ s. is_due settings moment s ≡ false) (is_of conn r) (cancelled r) r (λ w. unheld settings moment (cancelled r) (cancelled_unheld r)) (λ w. e)) rs q;
   login = λ rs conn id random mechanism parameters resp q. rested_added settings moment rs _ (unheld settings moment _ refl) q;
-  lookup = λ conn id pid client random cookie text l m q. rested_added settings moment (with_due_replied settings moment origin).requests _ (unheld settings moment _ refl) q;
+  lookup = λ conn id pid client random cookie text l m q. rested_added settings moment (before_input settings moment entered origin).requests _ (unheld settings moment _ refl) q;
   decide = λ rs n u d q. rested_always settings moment (with_decision settings moment) (λ r. answered_now settings moment (record r { decided = Some moment })) rs n q;
 }
 
@@ -134,6 +153,11 @@ part_one_rests : (settings : Settings) (moment : ℕ) (tables : Tables) → Rest
 unfolding with_due_replied
 part_one_rests settings moment tables = all_replied settings moment tables.requests
 
+before_rests : (settings : Settings) (moment : ℕ) (input : Input) (tables : Tables) → Rested settings moment (before_input settings moment input tables).requests
+before_rests settings moment input tables =
+    before_gives settings moment tables input (λ t. Unit {0}) (λ t. Unit {0}) (λ t. Rested settings moment t.requests)
+    (record { takes = λ is. tt; stays = tt; times_out = λ t q. tt; replies = λ t q. part_one_rests settings moment t })
+
 pub nothing_due_is_left : NothingDueIsLeft
 nothing_due_is_left settings e g =
-    after_part_one settings e.moment (tables_of settings g) e.input (Rested settings e.moment) (parts_keep settings e.moment (tables_of settings g) e.input) e.hits (part_one_rests settings e.moment (tables_of settings g))
+    after_part_one settings e.moment (tables_of settings g) e.input (Rested settings e.moment) (parts_keep settings e.moment (tables_of settings g) e.input) e.hits (before_rests settings e.moment e.input (tables_of settings g))

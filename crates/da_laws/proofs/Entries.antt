@@ -15,7 +15,7 @@ use Rattle.da_request.specs.Requests.{is_fresh}
 use Rattle.da_play.specs.History.{after_input}
 use Rattle.da_request.specs.Requests.{new_request, body_with_text, is_awaiting}
 use Rattle.da_lines.specs.Lines.{continues, is_cancellable, cancels, after_client_message, after_master_message, client_line, master_line, line_on}
-use Rattle.da_answers.specs.RecordedAnswers.{answers_request, after_answer, recorded_answer}
+use Rattle.da_answers.specs.RecordedAnswers.{answers_request, asks_again, after_answer, after_answer_for, is_lost, recorded_answer}
 use Rattle.da_tables.specs.Queries.{is_running}
 use Rattle.da_request.specs.Requests.{with_answer}
 use Rattle.da_request.specs.Requests.{is_granted_for, is_pending, is_undecided}
@@ -276,17 +276,31 @@ answer_quiet : (db : ℕ) (answer : Answer) (r : Request) → IsQuiet r (with_an
 answer_quiet db answer r = record { replied = refl; grant = λ c. refl }
 
 late_quiet : (db : ℕ) (answer : Answer) (r : Request) → IsQuiet r (with_late_answer db answer r)
-late_quiet db answer r = by_test (λ s. IsQuiet r s) (is_some r.decided) r (with_answer db answer r) (λ e. same_quiet r) (λ e. answer_quiet db answer r)
+late_quiet db answer r = by_test (λ s. IsQuiet r s) (is_some r.decided && not r.is_timed_out) r (with_answer db answer r) (λ e. same_quiet r) (λ e. answer_quiet db answer r)
 
 fair_answers : (tables : Tables) (n : ℕ) (q : Question) (answer : Answer) → IsFair tables.requests (answers_request n q answer tables)
 fair_answers tables n q answer = by_test (λ h. IsFair tables.requests h) (passes_option is_undecided (nth tables.requests n)) _ (continuing_none (with_request (with_late_answer q.db answer) n tables))
     (λ e. fair_continued tables (with_answer q.db answer) (answer_quiet q.db answer) n (pending_unreplied is_undecided (λ r w. and_first (is_pending r) _ w) tables.requests n e))
     (λ e. fair_applies tables (with_request (with_late_answer q.db answer) n tables) (all_changed (with_late_answer q.db answer) (late_quiet q.db answer) tables.requests n))
 
+fair_again : (tables : Tables) (n : ℕ) → IsFair tables.requests (asks_again n tables)
+fair_again tables n = by_test (λ h. IsFair tables.requests h) (passes_option is_undecided (nth tables.requests n)) (continuing n tables) (continuing_none tables)
+    (λ e. record {
+      carries = quietly tables.requests tables.requests (all_same tables.requests);
+      continued = pending_unreplied is_undecided (λ r w. and_first (is_pending r) _ w) tables.requests n e;
+    })
+    (λ e. fair_applies tables tables (all_same tables.requests))
+
+fair_recorded : (settings : Settings) (moment n : ℕ) (a : QueryRow) (answer : Answer) (tables : Tables) → IsFair tables.requests (after_answer_for settings moment n a answer tables)
+fair_recorded settings moment n a answer tables =
+    let answered : Tables = with_query (answered_by settings moment (nth tables.requests a.request) answer) n tables in
+    by_test (λ h. IsFair tables.requests h) (is_lost tables.queries n a answer) (asks_again a.request answered) (answers_request a.request a.question answer answered)
+    (λ e. fair_again answered a.request) (λ e. fair_answers answered a.request a.question answer)
+
 fair_records : (settings : Settings) (moment n : ℕ) (answer : Answer) (o : Option QueryRow) (tables : Tables) → IsFair tables.requests (after_answer settings moment n answer o tables)
 fair_records settings moment n answer None tables = fair_applies tables tables (all_same tables.requests)
 fair_records settings moment n answer (Some a) tables = by_test (λ h. IsFair tables.requests h) (is_running a) _ (continuing_none tables)
-    (λ e. fair_answers (with_query (answered_by settings moment (nth tables.requests a.request) (recorded_answer a.question.kind answer)) n tables) a.request a.question (recorded_answer a.question.kind answer))
+    (λ e. fair_recorded settings moment n a (recorded_answer a.question.kind answer) tables)
     (λ e. fair_applies tables tables (all_same tables.requests))
 
 -- each input is fair to the requests
@@ -296,7 +310,7 @@ fair_input settings moment (Opened kind random) tables = fair_applies tables _ (
 fair_input settings moment (Line conn text random) tables = fair_line settings moment conn text random (nth tables.connections conn) tables
 fair_input settings moment (Broken conn) tables = fair_closes conn tables
 fair_input settings moment (Gone conn) tables = fair_applies tables (with_end conn tables) (ended_quiet conn tables)
-fair_input settings moment Take tables = fair_applies tables _ (all_same tables.requests)
+fair_input settings moment Take tables = fair_applies tables tables (all_same tables.requests)
 fair_input settings moment (Answered query answer) tables = fair_records settings moment query answer (nth tables.queries query) tables
 fair_input settings moment (Late query) tables = fair_records settings moment query (Internal WasLate) (nth tables.queries query) tables
 fair_input settings moment Tick tables = fair_applies tables tables (all_same tables.requests)

@@ -1,15 +1,18 @@
 -- A user is given to a request that an entry has granted.
-use Rattle.std.proofs.Common.{◌≡◌, refl, sym, ap, subst, Option, Some, None, List, [], ◌∷◌, ◌++◌, ℕ, zero, suc, Bool, true, false, cond, map, slice_get, is_some, true≢false}
+use Rattle.std.proofs.Common.{◌≡◌, refl, sym, ap, subst, Option, Some, None, List, [], ◌∷◌, ◌++◌, ℕ, zero, suc, Bool, true, false, cond, not, ◌&&◌, map, slice_get, is_some, true≢false}
 use Rattle.std.proofs.lemmas.Option.{none-some, same_Some}
 use Rattle.da_tables.proofs.Cases.{by_test}
 use Rattle.da_play.proofs.EntryInduction.{EachPartKeeps, after_part_one}
+use Rattle.da_laws.proofs.Decisions.{by_stage_alone}
 use Rattle.da_laws.proofs.OkLaw.{user_is_granted}
 use Rattle.da_base.specs.Words.{Bytes, nth, changed_at, changed_nth}
 use Rattle.da_fields.specs.FieldList.{Pairs}
 use Rattle.da_laws.specs.GrantLaws.{WasGranted, UserWasGranted}
 use Rattle.da_lines.specs.Grants.{granted}
-use Rattle.da_play.specs.History.{tables_of}
-use Rattle.da_tables.specs.Tables.{with_due_replied}
+use Rattle.da_play.specs.History.{before_input, tables_of}
+use Rattle.da_tables.specs.Tables.{with_due_replied, with_timed_out}
+use Rattle.da_play.proofs.EntryParts.{before_gives}
+use Rattle.da_request.specs.Requests.{is_over_limit, timed_out, timed_out_if_over}
 use Rattle.da_request.specs.Requests.{with_decision}
 use Rattle.da_request.specs.Requests.{body_with_text}
 use Rattle.da_request.specs.Requests.{with_answer}
@@ -88,23 +91,32 @@ module _ (P : Made) where
   of_grant R (Some grant) h = h grant refl
 
   parts : (settings : Settings) (moment : ℕ) (origin : Tables) (entered : Input) →
-      ((conn id pid client : ℕ) (random cookie text : Bytes) (grant : Grant) → entered ≡ Line conn text random → master_message text ≡ Some (LookupRequest id pid client cookie) → granted settings moment (with_due_replied settings moment origin) pid client cookie ≡ Some grant → P conn id random grant) →
+      ((conn id pid client : ℕ) (random cookie text : Bytes) (grant : Grant) → entered ≡ Line conn text random → master_message text ≡ Some (LookupRequest id pid client cookie) → granted settings moment (before_input settings moment entered origin) pid client cookie ≡ Some grant → P conn id random grant) →
       EachPartKeeps settings moment origin entered (AllGrants P)
   unfolding Keeps
   parts settings moment origin entered h = record {
     text = λ rs n text u q. changed_keeps (with_text text) (λ r p. text_keeps (P r.conn r.id r.random) text r.body p) rs n q;
     answer = λ rs n db answer u q. changed_keeps (with_answer db answer) (λ r p. p) rs n q;
-    late = λ rs n db answer q. changed_keeps (with_late_answer db answer) (λ r p. either_keeps (is_some r.decided) r (with_answer db answer r) p p) rs n q;
+    late = λ rs n db answer q. changed_keeps (with_late_answer db answer) (λ r p. either_keeps (is_some r.decided && not r.is_timed_out) r (with_answer db answer r) p p) rs n q;
     cancel = λ rs n q. changed_keeps cancelled (λ r p. p) rs n q;
     end = λ rs conn q. mapped (λ r. cond (is_of conn r) (cancelled r) r) (λ r p. either_keeps (is_of conn r) (cancelled r) r p p) rs q;
     login = λ rs conn id random mechanism parameters resp q. added rs _ tt q;
-    lookup = λ conn id pid client random cookie text l m q. added (with_due_replied settings moment origin).requests _ (of_grant (P conn id random) (granted settings moment (with_due_replied settings moment origin) pid client cookie) (λ grant is. h conn id pid client random cookie text grant l m is)) q;
+    lookup = λ conn id pid client random cookie text l m q. added (before_input settings moment entered origin).requests _ (of_grant (P conn id random) (granted settings moment (before_input settings moment entered origin) pid client cookie) (λ grant is. h conn id pid client random cookie text grant l m is)) q;
     decide = λ rs n u d q. changed_keeps (with_decision settings moment) (λ r p. either_keeps (is_due settings moment (record r { decided = Some moment })) _ _ p p) rs n q;
   }
 
   part_one : (settings : Settings) (moment : ℕ) (tables : Tables) → AllGrants P tables.requests → AllGrants P (with_due_replied settings moment tables).requests
   unfolding with_due_replied Keeps
   part_one settings moment tables q = mapped (λ r. cond (is_due settings moment r) (record r { replied = Some moment }) r) (λ r p. either_keeps (is_due settings moment r) (record r { replied = Some moment }) r p p) tables.requests q
+
+  timed_keeps : (settings : Settings) (moment : ℕ) (tables : Tables) → AllGrants P tables.requests → AllGrants P (with_timed_out settings moment tables).requests
+  unfolding with_timed_out Keeps
+  timed_keeps settings moment tables q = mapped (timed_out_if_over settings moment) (λ r p. either_keeps (is_over_limit settings moment r) (timed_out moment r) r p p) tables.requests q
+
+  before_keeps : (settings : Settings) (moment : ℕ) (input : Input) (tables : Tables) → AllGrants P tables.requests → AllGrants P (before_input settings moment input tables).requests
+  before_keeps settings moment input tables q =
+      before_gives settings moment tables input (λ t. AllGrants P t.requests) (λ t. AllGrants P t.requests) (λ t. AllGrants P t.requests)
+      (record { takes = λ is. q; stays = q; times_out = timed_keeps settings moment; replies = part_one settings moment })
 
   of_slice : (rs : List Request) (n : ℕ) (r : Request) → AllGrants P rs → slice_get rs n ≡ Some r → OnGrant P r
   of_slice [] n r q e = absurd (none-some r e)
@@ -135,7 +147,7 @@ all_granted settings (e ∷ g) =
     after_part_one settings e.moment (tables_of settings g) e.input (AllGrants (WasGranted settings (e ∷ g)))
     (parts (WasGranted settings (e ∷ g)) settings e.moment (tables_of settings g) e.input
     (λ conn id pid client random cookie text grant l m is. record { newer = []; entry = e; older = g; is_there = refl; text = text; is_line = l; pid = pid; client = client; cookie = cookie; spells = m; is_granted = is }))
-    e.hits (part_one (WasGranted settings (e ∷ g)) settings e.moment (tables_of settings g) older)
+    e.hits (before_keeps (WasGranted settings (e ∷ g)) settings e.moment e.input (tables_of settings g) older)
 
 is_given : Decision → Bool
 is_given (UserGiven user fields) = true
@@ -154,11 +166,11 @@ same_user subject UserNotFound user fields e = absurd (true≢false (sym (ap is_
 same_user subject UserFailed user fields e = absurd (true≢false (sym (ap is_given (same_Some UserFailure (UserGiven user fields) e))))
 
 pub user_was_granted : UserWasGranted
-unfolding decision request_stage
+unfolding request_stage
 user_was_granted settings h n r user fields here e =
     let found : (grant : Grant) × (r.body ≡ LooksUp (Some grant)) = user_is_granted settings r user fields e in (
       found.0,
       found.1,
-      same_user found.0.lookup (user_chain settings.userdb found.0.lookup r.answers) user fields (subst (λ b. decision_in (body_stage settings r b) ≡ Some (UserGiven user fields)) found.1 e),
+      same_user found.0.lookup (user_chain settings.userdb found.0.lookup r.answers) user fields (subst (λ b. decision_in (body_stage settings r b) ≡ Some (UserGiven user fields)) found.1 (by_stage_alone settings r (UserGiven user fields) refl e)),
       subst (OnBody (WasGranted settings h r.conn r.id r.random)) found.1 (of_nth (WasGranted settings h) (tables_of settings h).requests n r (all_granted settings h) here),
     )

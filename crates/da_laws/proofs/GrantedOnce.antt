@@ -6,9 +6,12 @@ use Rattle.da_play.proofs.EntryInduction.{keeps_requests}
 use Rattle.da_base.specs.Words.{nth, changed_at, changed_nth, option_or_else, count_where}
 use Rattle.da_fields.specs.declared.answer.Answer.{Answer}
 use Rattle.da_laws.specs.GrantLaws.{GrantedAtMostOnce}
-use Rattle.da_play.specs.History.{tables_of, after, after_stage, follows_for, follows_from, after_input}
+use Rattle.da_play.specs.History.{after, after_input, after_stage, before_input, follows_for, follows_from, tables_of}
 use Rattle.da_request.specs.Requests.{with_decision}
-use Rattle.da_tables.specs.Tables.{with_due_replied}
+use Rattle.da_tables.specs.Tables.{with_due_replied, with_timed_out}
+use Rattle.da_play.proofs.EntryParts.{before_gives}
+use Rattle.da_play.specs.declared.input.Input.{Input}
+use Rattle.da_request.specs.Requests.{is_over_limit, timed_out, timed_out_if_over}
 use Rattle.da_answers.specs.Hits.{after_hits, after_hit, hit_on, hit_with}
 use Rattle.da_request.specs.Requests.{with_answer}
 use Rattle.da_request.specs.Requests.{is_granted_for, is_due, request_stage}
@@ -81,6 +84,16 @@ unfolding with_due_replied
 uses-due c settings moment tables = uses-map c (λ r. cond (is_due settings moment r) (record r { replied = Some moment }) r)
     (λ d r. by_test (λ (s : Request). is_granted_for d s.body ≡ is_granted_for d r.body) (is_due settings moment r) _ r (λ e. refl) (λ e. refl)) tables.requests
 
+uses-timed : (c : ℕ) (settings : Settings) (moment : ℕ) (tables : Tables) → uses c (with_timed_out settings moment tables).requests ≡ uses c tables.requests
+unfolding with_timed_out
+uses-timed c settings moment tables = uses-map c (timed_out_if_over settings moment)
+    (λ d r. by_test (λ (s : Request). is_granted_for d s.body ≡ is_granted_for d r.body) (is_over_limit settings moment r) (timed_out moment r) r (λ e. refl) (λ e. refl)) tables.requests
+
+uses-before : (c : ℕ) (settings : Settings) (moment : ℕ) (input : Input) (tables : Tables) → uses c (before_input settings moment input tables).requests ≡ uses c tables.requests
+uses-before c settings moment input tables =
+    before_gives settings moment tables input (λ t. uses c t.requests ≡ uses c tables.requests) (λ t. uses c t.requests ≡ uses c tables.requests) (λ t. uses c t.requests ≡ uses c tables.requests)
+    (record { takes = λ is. refl; stays = refl; times_out = λ t q. uses-timed c settings moment t ∙ q; replies = λ t q. uses-due c settings moment t ∙ q })
+
 uses-hit : (c : ℕ) (settings : Settings) (continued number : ℕ) (o : Option QueryRow) (tables : Tables) → uses c (hit_on settings continued number o tables).requests ≡ uses c tables.requests
 uses-hit c settings continued number None tables = refl
 uses-hit c settings continued number (Some a) tables = go a.answer
@@ -113,10 +126,10 @@ uses-after_continued c settings moment hits tables (Some m) = uses-follows c set
 entry_uses : (c : ℕ) (settings : Settings) (tables : Tables) (e : Entry) → uses c tables.requests ≤ 1 → uses c (after settings tables e).requests ≤ 1
 unfolding after
 entry_uses c settings tables e few =
-    let part1 : Tables = with_due_replied settings e.moment tables in
+    let part1 : Tables = before_input settings e.moment e.input tables in
     let h : AfterInput = after_input settings e.moment e.input part1 in
     let fair : IsFair part1.requests h = fair_input settings e.moment e.input part1 in
-    let one : uses c h.tables.requests ≤ 1 = uses-carried c part1.requests h.tables.requests fair.carries (subst (λ x. x ≤ 1) (sym (uses-due c settings e.moment tables)) few) in
+    let one : uses c h.tables.requests ≤ 1 = uses-carried c part1.requests h.tables.requests fair.carries (subst (λ x. x ≤ 1) (sym (uses-before c settings e.moment e.input tables)) few) in
     subst (λ rs. uses c rs ≤ 1) (sym (keeps_requests settings part1 e.input _)) (subst (λ x. x ≤ 1) (sym (uses-after_continued c settings e.moment e.hits h.tables h.continued)) one)
 
 pub granted_at_most_once : GrantedAtMostOnce

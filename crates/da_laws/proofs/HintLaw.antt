@@ -8,7 +8,7 @@ use Rattle.da_steps.proofs.AskedDatabases.{open_count, with_one, fewer, body_num
 use Rattle.da_steps.proofs.HitsMade.{open_of, hit_leaves_fewer, enough}
 use Rattle.da_laws.specs.ComparisonLaws.{recorded_uses, known_uses, after_hit, uses_in_turn, entry_uses, HintsAreTheFirst}
 use Rattle.da_play.specs.Comparing.{Compared, compares_after, compares_from, entry_compares, first_of_two, hint, known_answer, own_compares, recorded_compares, use_compares}
-use Rattle.da_play.specs.History.{after_input, tables_of}
+use Rattle.da_play.specs.History.{after_input, before_input, tables_of}
 use Rattle.da_play.specs.Legal.{entry_moment}
 use Rattle.da_play.specs.Play.{hits, refusal}
 use Rattle.da_play.specs.declared.input.Entry.{Entry}
@@ -19,7 +19,7 @@ use Rattle.da_request.specs.declared.request.Request.{Request}
 use Rattle.da_request.specs.declared.stages.Question.{Question}
 use Rattle.da_settings.specs.declared.settings.Settings.{Settings}
 use Rattle.da_tables.specs.Queries.{is_running}
-use Rattle.da_tables.specs.Tables.{AfterInput, with_due_replied}
+use Rattle.da_tables.specs.Tables.{AfterInput}
 use Rattle.da_tables.specs.declared.queries.QueryRow.{QueryRow}
 use Rattle.da_tables.specs.declared.tables.Tables.{Tables}
 
@@ -147,7 +147,7 @@ recorded_first settings before Tick = refl
 
 module _ (settings : Settings) (g : List Entry) (moment : ℕ) (input : Input) where
   abbrev before : Tables
-  before = with_due_replied settings moment (tables_of settings g)
+  before = before_input settings moment input (tables_of settings g)
 
   abbrev there : AfterInput
   there = after_input settings moment input before

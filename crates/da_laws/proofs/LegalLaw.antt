@@ -4,7 +4,7 @@ use Rattle.std.proofs.lemmas.List.{reverse-append, map-append}
 use Rattle.da_laws.proofs.HitsLaw.{hits_are_unique}
 use Rattle.da_tables.proofs.Cases.{and_first, and_second}
 use Rattle.da_base.specs.Words.{nth, passes_option, option_or_else}
-use Rattle.da_play.specs.History.{tables_of}
+use Rattle.da_play.specs.History.{before_input, tables_of}
 use Rattle.da_play.specs.Legal.{IsLegal, IsNext, is_full, is_allowed, late_from, last_moment, entry_moment}
 use Rattle.da_tables.specs.Connections.{open_count}
 use Rattle.da_play.specs.Play.{Event, hits, unless, late_refusal, input_refusal, refusal, next_entry, history_after, played}
@@ -21,7 +21,6 @@ use Rattle.da_settings.specs.declared.settings.Settings.{Settings}
 use Rattle.da_tables.specs.declared.tables.Tables.{Tables}
 use Rattle.da_play.specs.Legal.{ContinuedHits}
 use Rattle.da_play.specs.History.{after_input}
-use Rattle.da_tables.specs.Tables.{with_due_replied}
 use Rattle.da_tables.specs.Tables.{AfterInput}
 use Rattle.da_request.specs.declared.request.Request.{Request}
 use Rattle.da_steps.proofs.LegalSteps.{made_hits, legal_after}
@@ -80,7 +79,7 @@ same_moment g m h = omega (arith, h)
 same_entry : (settings : Settings) (g : List Entry) (e : Entry) → IsNext settings g e → next_entry settings g e.moment e.input ≡ e
 unfolding next_entry entry_of
 same_entry settings g e n =
-    let there : AfterInput = after_input settings e.moment e.input (with_due_replied settings e.moment (tables_of settings g)) in
+    let there : AfterInput = after_input settings e.moment e.input (before_input settings e.moment e.input (tables_of settings g)) in
     ap (λ m. entry_of m e.input (hits settings g m e.input)) (same_moment g e.moment n.later_or_same)
     ∙ ap (entry_of e.moment e.input)
     (same_hits settings e.moment (tables_of settings g) (option_and_then (nth there.tables.requests) there.continued) (hits settings g e.moment e.input) e.hits

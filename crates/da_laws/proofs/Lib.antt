@@ -1,4 +1,5 @@
 pub mod ComparisonLaw
+pub mod Decisions
 pub mod DelayLaw
 pub mod DueLaw
 pub mod Entries
@@ -8,6 +9,7 @@ pub mod GrantedOnce
 pub mod HintLaw
 pub mod HitsLaw
 pub mod LegalLaw
+pub mod LimitLaw
 pub mod LineLaw
 pub mod Noted
 pub mod OkLaw

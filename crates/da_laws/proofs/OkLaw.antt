@@ -10,6 +10,7 @@ use Rattle.da_fields.specs.declared.said.Said.TheVariants.{Challenge, Need, Proo
 use Rattle.da_request.specs.Attempts.{Attempt, mechanism_says, names, opening_named, opening_said, opening_by, opening, failure, after_proof, with_credentials, after_verdict, after_chain, stage_from, attempt_stage, login_in}
 use Rattle.da_request.specs.declared.openings.Opening.{Opening}
 use Rattle.da_request.specs.declared.openings.Opening.TheVariants.{Immediate, LogsIn}
+use Rattle.da_laws.proofs.Decisions.{by_stage_alone}
 use Rattle.da_request.specs.Requests.{lookup_stage, body_stage, request_stage, decision_in, decision, login_of}
 use Rattle.da_laws.specs.SuccessLaws.{AllStrict, HasSuccess, OkHasItsAnswer}
 use Rattle.da_settings.specs.declared.settings.Settings.{Settings}
@@ -125,8 +126,9 @@ body_ok settings r (LooksUp None) d t = absurd (true≢false (sym t))
 body_ok settings r (LooksUp (Some grant)) d t = absurd (true≢false (sym t ∙ lookup_no grant.lookup (user_chain settings.userdb grant.lookup r.answers)))
 
 pub ok_has_its_answer : OkHasItsAnswer
-unfolding decision request_stage login_of
-ok_has_its_answer settings r user fields last d e = body_ok settings r r.body d (ok_told (body_stage settings r r.body) user fields last e)
+unfolding request_stage login_of
+ok_has_its_answer settings r user fields last d e =
+    body_ok settings r r.body d (ok_told (body_stage settings r r.body) user fields last (by_stage_alone settings r (Success user fields last) refl e))
 
 -- ---- a USER
 
@@ -174,5 +176,6 @@ body_user settings r (LooksUp (Some grant)) t = (grant, refl)
 
 -- a request of a master that is given a user is granted
 pub user_is_granted : (settings : Settings) (r : Request) (user : Bytes) (fields : Pairs) → decision settings r ≡ Some (UserGiven user fields) → (grant : Grant) × (r.body ≡ LooksUp (Some grant))
-unfolding decision request_stage
-user_is_granted settings r user fields e = body_user settings r r.body (user_told (body_stage settings r r.body) user fields e)
+unfolding request_stage
+user_is_granted settings r user fields e =
+    body_user settings r r.body (user_told (body_stage settings r r.body) user fields (by_stage_alone settings r (UserGiven user fields) refl e))

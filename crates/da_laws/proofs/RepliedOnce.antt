@@ -1,19 +1,22 @@
 -- A request has at most one final reply.
 use Rattle.da_play.proofs.EntryInduction.{keeps_requests}
-use Rattle.std.proofs.Common.{◌≡◌, ◌≢◌, refl, sym, ◌∙◌, ap, ap₂, subst, Option, Some, None, List, [], ◌∷◌, ◌++◌, ℕ, zero, suc, ◌+◌, ◌≤◌, ◌<◌, Bool, true, false, cond, map, slice_get, is_some, arith, ◌==◌, option_to_list, true≢false, eq-eqb, ne_eqb, add-zero, zero-add}
+use Rattle.std.proofs.Common.{◌≡◌, ◌≢◌, refl, sym, ◌∙◌, ap, ap₂, subst, Option, Some, None, List, [], ◌∷◌, ◌++◌, ℕ, zero, suc, ◌+◌, ◌≤◌, ◌<◌, Bool, true, false, cond, map, slice_get, is_some, arith, ◌==◌, option_map, option_to_list, true≢false, eq-eqb, ne_eqb, add-zero, zero-add}
 use Rattle.std.proofs.lemmas.Bool.{eqb-true}
 use Rattle.da_tables.proofs.Cases.{by_test, and_first, and_second, not_true}
 use Rattle.da_laws.proofs.Entries.{replies_of, replies_at, quiet_replies, all_changed, all_same, AllQuiet, IsQuiet, IsFair, Carries, AreFresh, IsUnreplied, fair_input}
 use Rattle.da_base.specs.Words.{nth, changed_at, changed_nth, passes_option, option_or_else, numbers_where, count_where}
 use Rattle.da_fields.specs.declared.answer.Answer.{Answer}
 use Rattle.da_play.specs.Effects.{effects, final_replies, all_final_replies, due_requests, by_due, with_placed, continued_if}
-use Rattle.da_play.specs.History.{tables_of, after, keeps, after_stage, follows_for, follows_from, after_input}
-use Rattle.da_request.specs.Requests.{with_decision}
-use Rattle.da_tables.specs.Tables.{with_due_replied}
+use Rattle.da_play.proofs.EntryParts.{before_replies_gives}
+use Rattle.da_play.specs.History.{tables_of, after, keeps, after_stage, follows_for, follows_from, after_input, before_input, before_replies}
+use Rattle.da_play.specs.declared.input.Input.{Input}
+use Rattle.da_request.specs.Requests.{timed_out, timed_out_if_over, with_decision}
+use Rattle.da_tables.proofs.Rows.{nth-map}
+use Rattle.da_tables.specs.Tables.{with_due_replied, with_timed_out}
 use Rattle.da_answers.specs.Hits.{after_hits, after_hit, hit_on, hit_with}
 use Rattle.da_request.specs.Requests.{with_answer}
 use Rattle.da_laws.specs.ReplyLaws.{RepliesAtMostOnce}
-use Rattle.da_request.specs.Requests.{is_due, is_held, request_stage}
+use Rattle.da_request.specs.Requests.{is_due, is_held, is_over_limit, request_stage}
 use Rattle.da_tables.specs.Tables.{AfterInput}
 use Rattle.da_play.specs.declared.input.Entry.{Entry}
 use Rattle.da_settings.specs.declared.settings.Settings.{Settings}
@@ -27,7 +30,7 @@ use Rattle.da_tables.specs.declared.tables.Tables.{Tables}
 abbrev pub times : ℕ → List ℕ → ℕ
 times n = count_where (λ m. m == n)
 
-times-append : (n : ℕ) (xs ys : List ℕ) → times n (xs ++ ys) ≡ times n xs + times n ys
+pub times-append : (n : ℕ) (xs ys : List ℕ) → times n (xs ++ ys) ≡ times n xs + times n ys
 times-append n [] ys = sym (zero-add (times n ys))
 times-append n (x ∷ xs) ys = let rest : times n (xs ++ ys) ≡ times n xs + times n ys = times-append n xs ys in omega (arith, rest)
 
@@ -203,23 +206,45 @@ part_two settings moment hits tables (Some m) n u =
 
 -- ---- one entry, and a history
 
-entry_replies : (settings : Settings) (tables : Tables) (e : Entry) (n : ℕ) → replies_at (after settings tables e).requests n ≡ replies_at tables.requests n + times n (final_replies (effects settings tables e))
+-- nothing is replied before the replies that are due
+timed_replies : (settings : Settings) (moment : ℕ) (tables : Tables) (n : ℕ) → replies_at (with_timed_out settings moment tables).requests n ≡ replies_at tables.requests n
+unfolding with_timed_out
+timed_replies settings moment tables n = ap (λ o. option_or_else o 0 replies_of) (nth-map (timed_out_if_over settings moment) tables.requests n) ∙ go (nth tables.requests n)
+  where
+    go : (o : Option Request) → option_or_else (option_map (timed_out_if_over settings moment) o) 0 replies_of ≡ option_or_else o 0 replies_of
+    go None = refl
+    go (Some r) = by_test (λ (s : Request). replies_of s ≡ replies_of r) (is_over_limit settings moment r) (timed_out moment r) r (λ e. refl) (λ e. refl)
+
+replies_before : (settings : Settings) (moment : ℕ) (input : Input) (tables : Tables) (n : ℕ) → replies_at (before_replies settings moment input tables).requests n ≡ replies_at tables.requests n
+replies_before settings moment input tables n =
+    before_replies_gives settings moment tables input (λ t. replies_at t.requests n ≡ replies_at tables.requests n) (λ t. replies_at t.requests n ≡ replies_at tables.requests n) (λ t. Unit {0})
+    (record { takes = λ is. refl; stays = refl; times_out = λ t q. timed_replies settings moment t n ∙ q; replies = λ t q. tt })
+
+first_replies : (settings : Settings) (moment : ℕ) (input : Input) (tables : Tables) (n : ℕ) →
+    replies_at (before_input settings moment input tables).requests n ≡ replies_at tables.requests n + times n (due_requests settings (before_replies settings moment input tables) moment)
+unfolding before_input
+first_replies settings moment input tables n =
+    let timed : Tables = before_replies settings moment input tables in
+    part_one settings moment timed n ∙ ap (λ x. x + times n (due_requests settings timed moment)) (replies_before settings moment input tables n)
+
+pub entry_replies : (settings : Settings) (tables : Tables) (e : Entry) (n : ℕ) → replies_at (after settings tables e).requests n ≡ replies_at tables.requests n + times n (final_replies (effects settings tables e))
 unfolding after effects continued_to
 entry_replies settings tables e n =
-    let part1 : Tables = with_due_replied settings e.moment tables in
+    let timed : Tables = before_replies settings e.moment e.input tables in
+    let part1 : Tables = before_input settings e.moment e.input tables in
     let h : AfterInput = after_input settings e.moment e.input part1 in
     let fair : IsFair part1.requests h = fair_input settings e.moment e.input part1 in
     let last : Tables = continued_to settings e.moment e.hits h.tables h.continued in
     let reported : List ℕ = option_to_list (continued_if (λ r. is_some r.replied) last.requests h.continued) in
-    let first_part : replies_at part1.requests n ≡ replies_at tables.requests n + times n (due_requests settings tables e.moment) = part_one settings e.moment tables n in
+    let first_part : replies_at part1.requests n ≡ replies_at tables.requests n + times n (due_requests settings timed e.moment) = first_replies settings e.moment e.input tables n in
     let own : replies_at h.tables.requests n ≡ replies_at part1.requests n = carried part1.requests h.tables.requests fair.carries n in
     let second_part : replies_at last.requests n ≡ replies_at h.tables.requests n + times n reported = part_two settings e.moment e.hits h.tables h.continued n fair.continued in
     let same : (keeps settings part1 e.input last).requests ≡ last.requests = keeps_requests settings part1 e.input last in
     ap (λ rs. replies_at rs n) same ∙ second_part
     ∙ ap (λ x. x + times n reported) (own ∙ first_part)
-    ∙ regrouped (replies_at tables.requests n) (times n (due_requests settings tables e.moment)) (times n reported)
-    ∙ ap (λ x. replies_at tables.requests n + x) (sym (times-append n (due_requests settings tables e.moment) reported))
-    ∙ ap (λ rs. replies_at tables.requests n + times n (due_requests settings tables e.moment ++ option_to_list (continued_if (λ r. is_some r.replied) rs h.continued))) (sym same)
+    ∙ regrouped (replies_at tables.requests n) (times n (due_requests settings timed e.moment)) (times n reported)
+    ∙ ap (λ x. replies_at tables.requests n + x) (sym (times-append n (due_requests settings timed e.moment) reported))
+    ∙ ap (λ rs. replies_at tables.requests n + times n (due_requests settings timed e.moment ++ option_to_list (continued_if (λ r. is_some r.replied) rs h.continued))) (sym same)
   where
     regrouped : (a b c : ℕ) → a + b + c ≡ a + (b + c)
     regrouped a b c = omega arith

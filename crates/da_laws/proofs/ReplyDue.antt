@@ -1,23 +1,26 @@
--- A final reply is one of a request that is decided by its stage, and whose reply is due.
-use Rattle.std.proofs.Common.{◌≡◌, ◌≢◌, refl, sym, ◌∙◌, ap, subst, Option, Some, None, List, [], ◌∷◌, ◌++◌, ℕ, zero, suc, ◌+◌, Bool, true, false, cond, not, ◌&&◌, ◌||◌, map, slice_get, is_some, option_map, true≢false, nat_le, ◌==◌, arith, option_to_list, eq-eqb}
+-- A final reply is one of a request that is decided, by its stage or by its limit, and whose reply is due.
+use Rattle.std.proofs.Common.{◌≡◌, ◌≢◌, refl, sym, ◌∙◌, ap, subst, Option, Some, None, List, [], ◌∷◌, ◌++◌, ℕ, zero, suc, ◌+◌, Bool, true, false, cond, not, ◌&&◌, ◌||◌, map, slice_get, is_some, option_map, option_and_then, if◌then◌else◌, codes, true≢false, nat_le, ◌==◌, arith, option_to_list, eq-eqb}
 use Rattle.std.specs.List.{list_any}
 use Rattle.std.proofs.lemmas.Bool.{eqb-true}
 use Rattle.std.proofs.lemmas.Option.{none-some, same_Some}
 use Rattle.da_base.specs.Words.{nth, changed_at, changed_nth, passes_option, option_or_else, numbers_where, later}
 use Rattle.da_fields.specs.declared.answer.Answer.{Answer}
 use Rattle.da_tables.proofs.Cases.{by_test, and_first, and_second, not_true}
+use Rattle.da_laws.proofs.DueLaw.{answered_due}
+use Rattle.da_play.proofs.EntryParts.{before_gives, before_replies_gives}
 use Rattle.da_play.proofs.EntryInduction.{EachPartKeeps, IsUndecidedAt, ContinuedUndecided, IsSound, nth-changed, after_part_one, sound_input, sound_hits}
 use Rattle.da_laws.proofs.RepliedOnce.{nth-other}
 use Rattle.da_play.proofs.EntryInduction.{keeps_requests}
 use Rattle.da_play.specs.Effects.{effects, final_replies, due_requests, by_due, with_placed, continued_if}
-use Rattle.da_play.specs.History.{tables_of, after, after_input, keeps, after_stage, follows_for, follows_from}
-use Rattle.da_request.specs.Requests.{replied, replied_if_due, with_decision}
-use Rattle.da_tables.specs.Tables.{with_due_replied}
+use Rattle.da_play.specs.History.{tables_of, after, after_input, before_input, before_replies, keeps, after_stage, follows_for, follows_from}
+use Rattle.da_request.specs.Requests.{replied, replied_if_due, timed_failure, timed_out, timed_out_if_over, with_decision}
+use Rattle.da_tables.specs.Tables.{with_due_replied, with_timed_out}
 use Rattle.da_answers.specs.Hits.{after_hits}
 use Rattle.da_request.specs.Requests.{with_text}
 use Rattle.da_request.specs.Requests.{with_answer, with_late_answer}
 use Rattle.da_laws.specs.ReplyLaws.{RepliesAreDue}
-use Rattle.da_request.specs.Requests.{body_stage, request_stage, decision, decision_in, has_nodelay, is_failure, reply_delay, due_moment, is_held, is_due, is_pending, is_undecided}
+use Rattle.da_request.specs.Attempts.{Attempt, login_in, opening}
+use Rattle.da_request.specs.Requests.{attempt_in, body_stage, request_stage, login_of, decision, decision_in, has_nodelay, is_failure, limit_moment, reply_delay, due_moment, is_held, is_due, is_over_limit, is_pending, is_undecided}
 use Rattle.da_tables.specs.Tables.{AfterInput}
 use Rattle.da_request.specs.Requests.{cancelled, as_cancelled_of, is_of}
 use Rattle.da_play.specs.declared.input.Entry.{Entry}
@@ -26,6 +29,7 @@ use Rattle.da_settings.specs.declared.settings.Settings.{Settings}
 use Rattle.da_request.specs.declared.request.Body.{Body}
 use Rattle.da_request.specs.declared.request.Body.TheVariants.{Authenticates, LooksUp}
 use Rattle.da_request.specs.declared.stages.Decision.{Decision}
+use Rattle.da_request.specs.declared.stages.Decision.TheVariants.{Failure}
 use Rattle.da_request.specs.declared.request.Request.{Request}
 use Rattle.da_request.specs.declared.stages.Stage.{Stage}
 use Rattle.da_request.specs.declared.stages.Stage.TheVariants.{Awaits, Asks, Decided}
@@ -40,9 +44,29 @@ marked_stage : (settings : Settings) (r : Request) (c : Bool) (d p : Option ℕ)
 marked_stage settings r c d p (Authenticates mech params resp texts) = refl
 marked_stage settings r c d p (LooksUp grant) = refl
 
+marked_attempt : (settings : Settings) (r : Request) (c : Bool) (d p : Option ℕ) (b : Body) → attempt_in settings (marked r c d p) b ≡ attempt_in settings r b
+marked_attempt settings r c d p (Authenticates mech params resp texts) = refl
+marked_attempt settings r c d p (LooksUp grant) = refl
+
+-- the failure of a request that makes this attempt, and is timed out
+abbrev failure_of : Settings → Option Attempt → Decision
+failure_of settings attempt = Failure (option_map (λ l. l.user) (option_and_then (λ a. login_in (opening settings a)) attempt)) false false false (Some (codes "Timed out"))
+
 marked_decision : (settings : Settings) (r : Request) (c : Bool) (d p : Option ℕ) → decision settings (marked r c d p) ≡ decision settings r
-unfolding decision request_stage
-marked_decision settings r c d p = ap decision_in (marked_stage settings r c d p r.body)
+unfolding decision request_stage login_of
+marked_decision settings r c d p =
+    ap (λ (o : Option Attempt). if r.is_timed_out then Some (failure_of settings o) else decision_in (body_stage settings (marked r c d p) r.body)) (marked_attempt settings r c d p r.body)
+    ∙ ap (λ (s : Stage). if r.is_timed_out then Some (failure_of settings (attempt_in settings r r.body)) else decision_in s) (marked_stage settings r c d p r.body)
+
+-- a request has a decision where it is timed out, and where its stage is decided
+timed_decision : (settings : Settings) (r : Request) → r.is_timed_out ≡ true → is_some (decision settings r) ≡ true
+unfolding decision
+timed_decision settings r t = ap (λ (b : Bool). is_some (if b then Some (timed_failure settings r) else decision_in (request_stage settings r))) t
+
+stage_decision : (settings : Settings) (r : Request) (d : Decision) → request_stage settings r ≡ Decided d → is_some (decision settings r) ≡ true
+unfolding decision
+stage_decision settings r d e =
+    by_test (λ (o : Option Decision). is_some o ≡ true) r.is_timed_out (Some (timed_failure settings r)) (decision_in (request_stage settings r)) (λ t. refl) (λ f. ap (λ s. is_some (decision_in s)) e)
 
 marked_delay : (settings : Settings) (r : Request) (c : Bool) (d p : Option ℕ) → reply_delay settings (marked r c d p) ≡ reply_delay settings r
 unfolding reply_delay
@@ -101,6 +125,14 @@ undecided r u = not_true (is_some r.decided) (and_second (is_pending r) _ u)
 vacuous : (P : Type 0) (b : Bool) → b ≡ false → b ≡ true → P
 vacuous P b f e = absurd (true≢false (sym e ∙ f))
 
+-- a request that has a late answer though it is decided was timed out
+timed_late : (r : Request) → is_some r.decided ≡ true → (is_some r.decided && not r.is_timed_out) ≡ false → r.is_timed_out ≡ true
+timed_late r d e = go r.is_timed_out refl
+  where
+    go : (b : Bool) → r.is_timed_out ≡ b → r.is_timed_out ≡ true
+    go true t = t
+    go false t = absurd (true≢false (sym (ap (λ (x : Bool). x && not r.is_timed_out) d ∙ ap not t) ∙ e))
+
 noted_marked : (settings : Settings) (r : Request) (c : Bool) (p : Option ℕ) → IsNoted settings r → IsNoted settings (marked r c r.decided p)
 noted_marked settings r c p h = λ e. ap is_some (marked_decision settings r c r.decided p) ∙ h e
 
@@ -108,7 +140,7 @@ noted_reply : (settings : Settings) (moment : ℕ) (r : Request) → IsNoted set
 noted_reply settings moment r h = by_test (λ s. IsNoted settings s) (is_due settings moment r) (replied moment r) r (λ e. noted_marked settings r r.is_cancelled (Some moment) h) (λ e. h)
 
 noted_late : (settings : Settings) (db : ℕ) (answer : Answer) (r : Request) → IsNoted settings r → IsNoted settings (with_late_answer db answer r)
-noted_late settings db answer r h = by_test (λ s. IsNoted settings s) (is_some r.decided) r (with_answer db answer r) (λ e. h) (λ e. vacuous _ (is_some r.decided) e)
+noted_late settings db answer r h = by_test (λ s. IsNoted settings s) (is_some r.decided && not r.is_timed_out) r (with_answer db answer r) (λ e. h) (λ e d. timed_decision settings (with_answer db answer r) (timed_late r d e))
 
 noted_end : (settings : Settings) (conn : ℕ) (r : Request) → IsNoted settings r → IsNoted settings (as_cancelled_of conn r)
 noted_end settings conn r h = by_test (λ s. IsNoted settings s) (is_of conn r) (cancelled r) r (λ e. noted_marked settings r true r.replied h) (λ e. h)
@@ -124,26 +156,43 @@ noted_parts settings moment origin entered = record {
   cancel = λ rs n q. all_changed (IsNoted settings) cancelled (λ r h. noted_marked settings r true r.replied h) rs n q;
   end = λ rs conn q. all_mapped (IsNoted settings) (as_cancelled_of conn) (noted_end settings conn) rs q;
   login = λ rs conn id random mech params resp q. all_added (IsNoted settings) rs _ (λ e. absurd (true≢false (sym e))) q;
-  lookup = λ conn id pid client random cookie text l m q. all_added (IsNoted settings) (with_due_replied settings moment origin).requests _ (λ e. absurd (true≢false (sym e))) q;
+  lookup = λ conn id pid client random cookie text l m q. all_added (IsNoted settings) (before_input settings moment entered origin).requests _ (λ e. absurd (true≢false (sym e))) q;
   decide = λ rs n u d q. all_changed_if (IsNoted settings) (with_decision settings moment) (λ r. is_some (decision settings r)) (noted_decision settings moment) rs n d q;
 }
 
-noted_part_one : (settings : Settings) (moment : ℕ) (tables : Tables) → AllOf (IsNoted settings) tables.requests → AllOf (IsNoted settings) (with_due_replied settings moment tables).requests
+noted_due : (settings : Settings) (moment : ℕ) (tables : Tables) → AllOf (IsNoted settings) tables.requests → AllOf (IsNoted settings) (with_due_replied settings moment tables).requests
 unfolding with_due_replied
-noted_part_one settings moment tables q = all_mapped (IsNoted settings) (replied_if_due settings moment) (noted_reply settings moment) tables.requests q
+noted_due settings moment tables q = all_mapped (IsNoted settings) (replied_if_due settings moment) (noted_reply settings moment) tables.requests q
+
+noted_over : (settings : Settings) (moment : ℕ) (r : Request) → IsNoted settings r → IsNoted settings (timed_out_if_over settings moment r)
+noted_over settings moment r h = by_test (λ s. IsNoted settings s) (is_over_limit settings moment r) (timed_out moment r) r (λ e d. timed_decision settings (timed_out moment r) refl) (λ e. h)
+
+noted_timed : (settings : Settings) (moment : ℕ) (tables : Tables) → AllOf (IsNoted settings) tables.requests → AllOf (IsNoted settings) (with_timed_out settings moment tables).requests
+unfolding with_timed_out
+noted_timed settings moment tables q = all_mapped (IsNoted settings) (timed_out_if_over settings moment) (noted_over settings moment) tables.requests q
+
+noted_replies : (settings : Settings) (moment : ℕ) (input : Input) (tables : Tables) → AllOf (IsNoted settings) tables.requests → AllOf (IsNoted settings) (before_replies settings moment input tables).requests
+noted_replies settings moment input tables q =
+    before_replies_gives settings moment tables input (λ t. AllOf (IsNoted settings) t.requests) (λ t. AllOf (IsNoted settings) t.requests) (λ t. AllOf (IsNoted settings) t.requests)
+    (record { takes = λ is. q; stays = q; times_out = noted_timed settings moment; replies = noted_due settings moment })
+
+noted_before : (settings : Settings) (moment : ℕ) (input : Input) (tables : Tables) → AllOf (IsNoted settings) tables.requests → AllOf (IsNoted settings) (before_input settings moment input tables).requests
+noted_before settings moment input tables q =
+    before_gives settings moment tables input (λ t. AllOf (IsNoted settings) t.requests) (λ t. AllOf (IsNoted settings) t.requests) (λ t. AllOf (IsNoted settings) t.requests)
+    (record { takes = λ is. q; stays = q; times_out = noted_timed settings moment; replies = noted_due settings moment })
 
 all_noted : (settings : Settings) (h : List Entry) → AllOf (IsNoted settings) (tables_of settings h).requests
 all_noted settings [] = tt
 all_noted settings (e ∷ g) =
     after_part_one settings e.moment (tables_of settings g) e.input (AllOf (IsNoted settings)) (noted_parts settings e.moment (tables_of settings g) e.input) e.hits
-    (noted_part_one settings e.moment (tables_of settings g) (all_noted settings g))
+    (noted_before settings e.moment e.input (tables_of settings g) (all_noted settings g))
 
 -- ---- a request that was replied now
 
--- it is decided, by its stage too, and was replied at this moment, which its reply has reached
+-- it is decided, and has its decision, and was replied at this moment, which its reply has reached
 pub record IsToldNow (settings : Settings) (moment : ℕ) (r : Request) : Type 0 where
   pub decided : is_some r.decided ≡ true
-  pub by_stage : is_some (decision settings r) ≡ true
+  pub has_decision : is_some (decision settings r) ≡ true
   pub replied : r.replied ≡ Some moment
   pub in_time : passes_option (λ due. nat_le due moment) (due_moment settings r) ≡ true
 
@@ -151,12 +200,12 @@ abbrev ToldAt : Settings → ℕ → ℕ → List Request → Type 0
 ToldAt settings moment n rs = (r : Request) × (nth rs n ≡ Some r) × IsToldNow settings moment r
 
 due_of_marked : (settings : Settings) (r : Request) (c : Bool) (p : Option ℕ) → due_moment settings (marked r c r.decided p) ≡ due_moment settings r
-due_of_marked settings r c p = ap (λ delay. option_map (λ m. later m delay) r.decided) (marked_delay settings r c r.decided p)
+due_of_marked settings r c p = ap (λ (delay : ℕ). option_map (λ m. if r.is_timed_out then limit_moment settings r else later m delay) r.decided) (marked_delay settings r c r.decided p)
 
 told_cancelled : (settings : Settings) (moment : ℕ) (r : Request) → IsToldNow settings moment r → IsToldNow settings moment (cancelled r)
 told_cancelled settings moment r t = record {
   decided = t.decided;
-  by_stage = ap is_some (marked_decision settings r true r.decided r.replied) ∙ t.by_stage;
+  has_decision = ap is_some (marked_decision settings r true r.decided r.replied) ∙ t.has_decision;
   replied = t.replied;
   in_time = ap (passes_option (λ due. nat_le due moment)) (due_of_marked settings r true r.replied) ∙ t.in_time;
 }
@@ -165,7 +214,15 @@ told_end : (settings : Settings) (moment conn : ℕ) (r : Request) → IsToldNow
 told_end settings moment conn r t = by_test (λ s. IsToldNow settings moment s) (is_of conn r) (cancelled r) r (λ e. told_cancelled settings moment r t) (λ e. t)
 
 told_late : (settings : Settings) (moment db : ℕ) (answer : Answer) (r : Request) → IsToldNow settings moment r → IsToldNow settings moment (with_late_answer db answer r)
-told_late settings moment db answer r t = by_test (λ s. IsToldNow settings moment s) (is_some r.decided) r (with_answer db answer r) (λ e. t) (λ e. absurd (true≢false (sym t.decided ∙ e)))
+told_late settings moment db answer r t = by_test (λ s. IsToldNow settings moment s) (is_some r.decided && not r.is_timed_out) r (with_answer db answer r) (λ e. t) (λ e. timed (timed_late r t.decided e))
+  where
+    timed : r.is_timed_out ≡ true → IsToldNow settings moment (with_answer db answer r)
+    timed m = record {
+      decided = t.decided;
+      has_decision = timed_decision settings (with_answer db answer r) m;
+      replied = t.replied;
+      in_time = ap (passes_option (λ due. nat_le due moment)) (answered_due settings db answer r m r.decided) ∙ t.in_time;
+    }
 
 nth-mapped : (f : Request → Request) (rs : List Request) (n : ℕ) → nth (map f rs) n ≡ option_map f (nth rs n)
 nth-mapped f rs zero = refl
@@ -218,7 +275,7 @@ module _ (settings : Settings) (moment n : ℕ) where
     cancel = λ rs k t. told_changed cancelled (told_cancelled settings moment) rs k t;
     end = λ rs conn t. (as_cancelled_of conn t.0, nth-mapped (as_cancelled_of conn) rs n ∙ ap (option_map (as_cancelled_of conn)) t.1, told_end settings moment conn t.0 t.2);
     login = λ rs conn id random mech params resp t. (t.0, nth-added rs _ t.0 n t.1, t.2);
-    lookup = λ conn id pid client random cookie text l m t. (t.0, nth-added (with_due_replied settings moment origin).requests _ t.0 n t.1, t.2);
+    lookup = λ conn id pid client random cookie text l m t. (t.0, nth-added (before_input settings moment entered origin).requests _ t.0 n t.1, t.2);
     decide = λ rs k u d t. told_elsewhere (with_decision settings moment) rs k u t;
   }
 
@@ -233,7 +290,7 @@ module _ (settings : Settings) (moment n : ℕ) where
         nth-mapped (replied_if_due settings moment) rs n ∙ ap (option_map (replied_if_due settings moment)) here ∙ ap (λ b. Some (cond b (replied moment r) r)) due,
         record {
           decided = decided;
-          by_stage = ap is_some (marked_decision settings r r.is_cancelled r.decided (Some moment)) ∙ of_nth (IsNoted settings) rs n r noted here decided;
+          has_decision = ap is_some (marked_decision settings r r.is_cancelled r.decided (Some moment)) ∙ of_nth (IsNoted settings) rs n r noted here decided;
           replied = refl;
           in_time = ap (passes_option (λ d. nat_le d moment)) (due_of_marked settings r r.is_cancelled (Some moment)) ∙ and_second (is_held r) _ due;
         },
@@ -315,7 +372,7 @@ unreplied r u = not_true (is_some r.replied) (and_second (not r.is_cancelled) _ 
 module _ (settings : Settings) (moment n : ℕ) (tables : Tables) where
   told_now : (r : Request) → nth tables.requests n ≡ Some r → is_undecided r ≡ true → (d : Decision) → request_stage settings r ≡ Decided d →
       passes_option was_replied (nth (changed_nth (with_decision settings moment) tables.requests n) n) ≡ true → ToldAt settings moment n (changed_nth (with_decision settings moment) tables.requests n)
-  unfolding is_due decision
+  unfolding is_due
   told_now r here u d stage e = go (is_due settings moment (record r { decided = Some moment })) refl
     where
       there : nth (changed_nth (with_decision settings moment) tables.requests n) n ≡ Some (with_decision settings moment r)
@@ -327,7 +384,7 @@ module _ (settings : Settings) (moment n : ℕ) (tables : Tables) where
         there ∙ ap (λ b. Some (cond b (replied moment (record r { decided = Some moment })) (record r { decided = Some moment }))) due,
         record {
           decided = refl;
-          by_stage = ap is_some (marked_decision settings r r.is_cancelled (Some moment) (Some moment)) ∙ ap (λ s. is_some (decision_in s)) stage;
+          has_decision = ap is_some (marked_decision settings r r.is_cancelled (Some moment) (Some moment)) ∙ stage_decision settings r d stage;
           replied = refl;
           in_time = ap (passes_option (λ x. nat_le x moment)) (due_of_marked settings (record r { decided = Some moment }) r.is_cancelled (Some moment)) ∙ and_second (is_held (record r { decided = Some moment })) _ due;
         },
@@ -378,22 +435,31 @@ any-append n (x ∷ xs) ys = ap (λ b. is_number n x || b) (any-append n xs ys) 
     or_grouped true b c = refl
     or_grouped false b c = refl
 
+-- the replies of part one are given to the requests that are due after the time-outs
+told_before : (settings : Settings) (moment n : ℕ) (input : Input) (tables : Tables) → AllOf (IsNoted settings) tables.requests → list_any (is_number n) (due_requests settings (before_replies settings moment input tables) moment) ≡ true →
+    ToldAt settings moment n (before_input settings moment input tables).requests
+unfolding before_input with_due_replied
+told_before settings moment n input tables noted due =
+    let timed : Tables = before_replies settings moment input tables in
+    let here : (r : Request) × (nth timed.requests n ≡ Some r) × (is_due settings moment r ≡ true) = due_stands settings timed moment n due in
+    told_by_part_one settings moment n timed.requests here.0 (noted_replies settings moment input tables noted) here.1 here.2
+
 told_by_entry : (settings : Settings) (e : Entry) (g : List Entry) (n : ℕ) → list_any (is_number n) (final_replies (effects settings (tables_of settings g) e)) ≡ true → ToldAt settings e.moment n (tables_of settings (e ∷ g)).requests
-unfolding effects after with_due_replied
+unfolding effects after
 told_by_entry settings e g n reported =
     let tables : Tables = tables_of settings g in
-    let before : Tables = with_due_replied settings e.moment tables in
+    let before : Tables = before_input settings e.moment e.input tables in
     let h : AfterInput = after_input settings e.moment e.input before in
     let last : Tables = continued_to settings e.moment e.hits h.tables h.continued in
+    let timed : Tables = before_replies settings e.moment e.input tables in
     let same : (keeps settings before e.input last).requests ≡ last.requests = keeps_requests settings before e.input last in
     either (ToldAt settings e.moment n (tables_of settings (e ∷ g)).requests)
-    (list_any (is_number n) (due_requests settings tables e.moment))
+    (list_any (is_number n) (due_requests settings timed e.moment))
     (list_any (is_number n) (option_to_list (continued_if was_replied (keeps settings before e.input last).requests h.continued)))
-    (sym (any-append n (due_requests settings tables e.moment) (option_to_list (continued_if was_replied (keeps settings before e.input last).requests h.continued))) ∙ reported)
+    (sym (any-append n (due_requests settings timed e.moment) (option_to_list (continued_if was_replied (keeps settings before e.input last).requests h.continued))) ∙ reported)
     (λ due.
-    let here : (r : Request) × (nth tables.requests n ≡ Some r) × (is_due settings e.moment r ≡ true) = due_stands settings tables e.moment n due in
     after_part_one settings e.moment tables e.input (ToldAt settings e.moment n) (told_parts settings e.moment n tables e.input) e.hits
-    (told_by_part_one settings e.moment n tables.requests here.0 (all_noted settings g) here.1 here.2))
+    (told_before settings e.moment n e.input tables (all_noted settings g) due))
     (λ own.
     let sound : IsSound (λ rs. Unit {0}) h = sound_input settings e.moment tables e.input (λ rs. Unit {0}) (nothing_kept settings e.moment tables e.input) e.input refl tt in
     subst (ToldAt settings e.moment n) (sym same)
@@ -403,4 +469,4 @@ told_by_entry settings e g n reported =
 pub replies_are_due : RepliesAreDue
 replies_are_due settings e g n reported =
     let t : ToldAt settings e.moment n (tables_of settings (e ∷ g)).requests = told_by_entry settings e g n reported in
-    (t.0, t.1, t.2.by_stage, t.2.replied, t.2.in_time)
+    (t.0, t.1, t.2.has_decision, t.2.replied, t.2.in_time)

@@ -4,7 +4,7 @@ use Rattle.std.specs.List.{list_any}
 use Rattle.std.proofs.lemmas.List.Folds.{list_any-append}
 use Rattle.std.proofs.lemmas.Option.{none-some, same_Some}
 use Rattle.da_tables.proofs.Cases.{by_test, and_first, and_second, not_true}
-use Rattle.da_play.proofs.EntryParts.{InputParts, ContinuedParts, IsMade, IsSameConnection, an_entry_gives}
+use Rattle.da_play.proofs.EntryParts.{InputParts, ContinuedParts, IsMade, IsSameConnection, an_entry_gives, before_gives, before_replies_gives}
 use Rattle.da_invariants.proofs.OpenQueries.{nowhere}
 use Rattle.da_laws.proofs.RepliedOnce.{times, times-due}
 use Rattle.da_tables.proofs.Rows.{of_changed, of_appended, of_mapped, nth-changed, nth-unchanged, nth-before, nth-past, same_or_not, mapped_value}
@@ -13,9 +13,9 @@ use Rattle.da_base.specs.Words.{Bytes, nth, changed_nth, passes_option, option_o
 use Rattle.da_fields.specs.declared.answer.Answer.{Answer}
 use Rattle.da_msgs.specs.Replies.{greeting}
 use Rattle.da_play.specs.Effects.{effects, entry_lines, due_lines, own_lines, reply_to, reply_lines, challenge_lines, greeting_lines, opened_by, continued_if, due_requests}
-use Rattle.da_play.specs.History.{tables_of, after, after_input}
-use Rattle.da_tables.specs.Tables.{with_due_replied}
-use Rattle.da_request.specs.Requests.{with_decision, replied_if_due}
+use Rattle.da_play.specs.History.{after, after_input, before_input, before_replies, tables_of}
+use Rattle.da_tables.specs.Tables.{with_due_replied, with_timed_out}
+use Rattle.da_request.specs.Requests.{is_over_limit, timed_out, timed_out_if_over, with_decision, replied_if_due}
 use Rattle.da_request.specs.Requests.{new_request, with_text}
 use Rattle.da_request.specs.Requests.{with_answer, with_late_answer}
 use Rattle.da_laws.specs.ReplyLaws.{EndedIsSilent}
@@ -79,7 +79,7 @@ keeps_by : (f : Request → Request) → ((r : Request) → KeepsAt r (f r)) →
 keeps_by f h = record { conn = λ r. (h r).conn; cancelled = λ r. (h r).cancelled }
 
 late_keeps : (db : ℕ) (answer : Answer) → KeepsConn (with_late_answer db answer)
-late_keeps db answer = keeps_by (with_late_answer db answer) (λ r. by_test (KeepsAt r) (is_some r.decided) r (with_answer db answer r) (λ e. keeps_same r) (λ e. record { conn = refl; cancelled = λ c. c }))
+late_keeps db answer = keeps_by (with_late_answer db answer) (λ r. by_test (KeepsAt r) (is_some r.decided && not r.is_timed_out) r (with_answer db answer r) (λ e. keeps_same r) (λ e. record { conn = refl; cancelled = λ c. c }))
 
 due_keeps : (settings : Settings) (moment : ℕ) (r : Request) → KeepsAt r (replied_if_due settings moment r)
 due_keeps settings moment r = by_test (KeepsAt r) (is_due settings moment r) (record r { replied = Some moment }) r (λ e. record { conn = refl; cancelled = λ c. c }) (λ e. keeps_same r)
@@ -135,9 +135,10 @@ module _ (settings : Settings) (moment : ℕ) (before : Tables) (entered : Input
     cancels = λ n e p. changed_open before.connections cancelled cancelled_keeps before.requests n p;
     texts = λ conn id random text m r is w p. changed_open before.connections (with_text text) (text_keeps text) before.requests _ p;
     makes = λ conn id random body m p. made_open conn id random body m p;
-    takes = λ l p. p;
-    answers = λ query given a g is run u p. changed_open before.connections (with_answer a.question.db _) (answer_keeps a.question.db _) before.requests a.request p;
-    lates = λ query given a g is run u p. changed_open before.connections (with_late_answer a.question.db _) (late_keeps a.question.db _) before.requests a.request p;
+    loses = λ query given a g is run lost u p. p;
+    loses_late = λ query given a g is run lost u p. p;
+    answers = λ query given a g is run heard u p. changed_open before.connections (with_answer a.question.db _) (answer_keeps a.question.db _) before.requests a.request p;
+    lates = λ query given a g is run heard u p. changed_open before.connections (with_late_answer a.question.db _) (late_keeps a.question.db _) before.requests a.request p;
   }
     where
       reported : (conn other : ℕ) (change : Connection → Connection) → ((c : Connection) → IsSameConnection c (change c)) → (c : Connection) → nth before.connections other ≡ Some c →
@@ -159,6 +160,10 @@ module _ (settings : Settings) (moment : ℕ) (before : Tables) (entered : Input
     kept = λ tables m query given a l run is k q. q;
   }
 
+-- a request that is timed out is on the same connection, and cancelled or not as before
+over_keeps : (settings : Settings) (moment : ℕ) (r : Request) → ((timed_out_if_over settings moment r).conn ≡ r.conn) × ((timed_out_if_over settings moment r).is_cancelled ≡ r.is_cancelled)
+over_keeps settings moment r = by_test (λ (s : Request). (s.conn ≡ r.conn) × (s.is_cancelled ≡ r.is_cancelled)) (is_over_limit settings moment r) (timed_out moment r) r (λ e. (refl, refl)) (λ e. (refl, refl))
+
 due_open : (settings : Settings) (moment : ℕ) (tables : Tables) → AllOpen tables → AllOpen (with_due_replied settings moment tables)
 unfolding with_due_replied
 due_open settings moment tables p n r e c =
@@ -166,15 +171,42 @@ due_open settings moment tables p n r e c =
     subst (λ (x : ℕ). IsOpenAt tables.connections x) (sym (ap (λ (x : Request). x.conn) was.2 ∙ (due_keeps settings moment was.0).conn))
     (p n was.0 was.1 ((due_keeps settings moment was.0).cancelled (sym (ap (λ (x : Request). x.is_cancelled) was.2) ∙ c)))
 
+timed_open : (settings : Settings) (moment : ℕ) (tables : Tables) → AllOpen tables → AllOpen (with_timed_out settings moment tables)
+unfolding with_timed_out
+timed_open settings moment tables p n r e c =
+    let was : (s : Request) × (nth tables.requests n ≡ Some s) × (r ≡ timed_out_if_over settings moment s) = of_mapped (timed_out_if_over settings moment) tables.requests n r e in
+    subst (λ (x : ℕ). IsOpenAt tables.connections x) (sym (ap (λ (x : Request). x.conn) was.2 ∙ (over_keeps settings moment was.0).0))
+    (p n was.0 was.1 (sym (over_keeps settings moment was.0).1 ∙ sym (ap (λ (x : Request). x.is_cancelled) was.2) ∙ c))
+
+before_open : (settings : Settings) (moment : ℕ) (input : Input) (tables : Tables) → AllOpen tables → AllOpen (before_input settings moment input tables)
+before_open settings moment input tables p =
+    before_gives settings moment tables input AllOpen AllOpen AllOpen (record { takes = λ is. p; stays = p; times_out = timed_open settings moment; replies = due_open settings moment })
+
+-- each request before the replies that are due was there before the entry, on the same connection
+abbrev WasOn : Tables → Tables → Type 0
+WasOn tables t = (n : ℕ) (r : Request) → nth t.requests n ≡ Some r → (s : Request) × (nth tables.requests n ≡ Some s) × (r.conn ≡ s.conn) × (r.is_cancelled ≡ s.is_cancelled)
+
+timed_was : (settings : Settings) (moment : ℕ) (tables t : Tables) → WasOn tables t → WasOn tables (with_timed_out settings moment t)
+unfolding with_timed_out
+timed_was settings moment tables t p n r e =
+    let was : (s : Request) × (nth t.requests n ≡ Some s) × (r ≡ timed_out_if_over settings moment s) = of_mapped (timed_out_if_over settings moment) t.requests n r e in
+    let first : (s : Request) × (nth tables.requests n ≡ Some s) × (was.0.conn ≡ s.conn) × (was.0.is_cancelled ≡ s.is_cancelled) = p n was.0 was.1 in
+    (first.0, first.1, ap (λ (x : Request). x.conn) was.2 ∙ (over_keeps settings moment was.0).0 ∙ first.2, ap (λ (x : Request). x.is_cancelled) was.2 ∙ (over_keeps settings moment was.0).1 ∙ first.3)
+
+replies_was : (settings : Settings) (moment : ℕ) (input : Input) (tables : Tables) → WasOn tables (before_replies settings moment input tables)
+replies_was settings moment input tables =
+    before_replies_gives settings moment tables input (WasOn tables) (WasOn tables) (λ t. Unit {0})
+    (record { takes = λ is n r e. (r, e, refl, refl); stays = λ n r e. (r, e, refl, refl); times_out = timed_was settings moment tables; replies = λ t q. tt })
+
 start_open : (n : ℕ) (r : Request) → nth [] n ≡ Some r → r.is_cancelled ≡ false → IsOpenAt [] r.conn
 start_open n r e c = absurd (nowhere n r e)
 
 pub all_open : (settings : Settings) (h : List Entry) → AllOpen (tables_of settings h)
 all_open settings [] = start_open
 all_open settings (e ∷ g) =
-    let before : Tables = with_due_replied settings e.moment (tables_of settings g) in
+    let before : Tables = before_input settings e.moment e.input (tables_of settings g) in
     an_entry_gives settings (tables_of settings g) e (open_now settings e.moment before e.input e.hits) (open_after settings e.moment before e.input e.hits)
-    (input_open settings e.moment before e.input e.hits) (continued_open settings e.moment before e.input e.hits) (due_open settings e.moment (tables_of settings g) (all_open settings g))
+    (input_open settings e.moment before e.input e.hits) (continued_open settings e.moment before e.input e.hits) (before_open settings e.moment e.input (tables_of settings g) (all_open settings g))
 
 -- ---- the request that continues is on an open connection
 
@@ -187,7 +219,7 @@ module _ (settings : Settings) (origin : Tables) (e : Entry) where
   unit_now tables m done = Unit {0}
 
   abbrev before : Tables
-  before = with_due_replied settings e.moment origin
+  before = before_input settings e.moment e.input origin
 
   of_continued : (tables : Tables) (n : ℕ) (r : Request) → nth tables.requests n ≡ Some r → is_undecided r ≡ true → ContinuedOpen tables (Some n)
   of_continued tables n r is u k d s x = undecided_uncancelled s (subst (λ (y : Request). is_undecided y ≡ true) (same_Some r s (sym is ∙ ap (nth tables.requests) (same_Some n k d) ∙ x)) u)
@@ -213,9 +245,10 @@ module _ (settings : Settings) (origin : Tables) (e : Entry) where
     cancels = λ n x p. tt;
     texts = λ conn id random text m r is w p. tt;
     makes = λ conn id random body m p. tt;
-    takes = λ l p. tt;
-    answers = λ query given a g is run u p. tt;
-    lates = λ query given a g is run u p. tt;
+    loses = λ query given a g is run lost u p. tt;
+    loses_late = λ query given a g is run lost u p. tt;
+    answers = λ query given a g is run heard u p. tt;
+    lates = λ query given a g is run heard u p. tt;
   }
 
   continued_it : ContinuedParts settings e.moment before e.input e.hits unit_now ContinuedOpen
@@ -269,20 +302,27 @@ module _ (settings : Settings) (e : Entry) (g : List Entry) (conn : ℕ) (c : Co
       go : (d : Connection) × (nth final.connections conn ≡ Some d) × ConnectionStands c d → ⊥
       go (d, at, k) = true≢false (sym (k.is_ended (sym (ap (passes_option (λ c. c.is_open)) at) ∙ o)) ∙ ended)
 
-  -- the requests whose replies are due are on open connections
-  due_on_other : (n : ℕ) (r : Request) → nth final.requests n ≡ Some r → passes_option (is_due settings e.moment) (nth tables.requests n) ≡ true → r.conn ≢ conn
-  unfolding is_due
-  due_on_other n r at d = go (nth tables.requests n) refl d
-    where
-      go : (o : Option Request) → nth tables.requests n ≡ o → passes_option (is_due settings e.moment) o ≡ true → r.conn ≢ conn
-      go None x w = absurd (true≢false (sym w))
-      go (Some s) x w = later ((entry_stands settings tables e).requests n s x)
-        where
-          uncancelled : s.is_cancelled ≡ false
-          uncancelled = not_true s.is_cancelled (and_second (is_some s.decided) _ (and_first (is_some s.decided && not s.is_cancelled) _ (and_first (is_held s) _ w)))
+  -- the tables before the replies that are due
+  abbrev timed : Tables
+  timed = before_replies settings e.moment e.input tables
 
-          later : (t : Request) × (nth final.requests n ≡ Some t) × RequestStands s t → r.conn ≢ conn
-          later (t, there, k) y = not_open (subst (λ (z : ℕ). IsOpenAt tables.connections z) (sym (ap (λ (z : Request). z.conn) (same_Some r t (sym at ∙ there)) ∙ k.conn) ∙ y) (all_open settings g n s x uncancelled))
+  -- the requests whose replies are due are on open connections
+  due_on_other : (n : ℕ) (r : Request) → nth final.requests n ≡ Some r → passes_option (is_due settings e.moment) (nth timed.requests n) ≡ true → r.conn ≢ conn
+  unfolding is_due
+  due_on_other n r at d = go (nth timed.requests n) refl d
+    where
+      go : (o : Option Request) → nth timed.requests n ≡ o → passes_option (is_due settings e.moment) o ≡ true → r.conn ≢ conn
+      go None x w = absurd (true≢false (sym w))
+      go (Some q) x w = from (replies_was settings e.moment e.input tables n q x)
+        where
+          uncancelled : q.is_cancelled ≡ false
+          uncancelled = not_true q.is_cancelled (and_second (is_some q.decided) _ (and_first (is_some q.decided && not q.is_cancelled) _ (and_first (is_held q) _ w)))
+
+          from : (s : Request) × (nth tables.requests n ≡ Some s) × (q.conn ≡ s.conn) × (q.is_cancelled ≡ s.is_cancelled) → r.conn ≢ conn
+          from (s, first, same, kept) = later ((entry_stands settings tables e).requests n s first)
+            where
+              later : (t : Request) × (nth final.requests n ≡ Some t) × RequestStands s t → r.conn ≢ conn
+              later (t, there, k) y = not_open (subst (λ (z : ℕ). IsOpenAt tables.connections z) (sym (ap (λ (z : Request). z.conn) (same_Some r t (sym at ∙ there)) ∙ k.conn) ∙ y) (all_open settings g n s first (sym kept ∙ uncancelled)))
 
   replies_silent : (n : ℕ) → ((r : Request) → nth final.requests n ≡ Some r → r.conn ≢ conn) → IsSilent (reply_lines settings final n)
   replies_silent n h = go (nth final.requests n) refl
@@ -331,7 +371,7 @@ module _ (settings : Settings) (e : Entry) (g : List Entry) (conn : ℕ) (c : Co
 
   due_silent : IsSilent (due_lines settings final (effects settings tables e))
   unfolding effects
-  due_silent = each_silent (reply_lines settings final) (due_requests settings tables e.moment) (λ n k. replies_silent n (λ r at. due_on_other n r at (is_among n (nth tables.requests n) (λ z. k (times-due settings tables e.moment n ∙ z)))))
+  due_silent = each_silent (reply_lines settings final) (due_requests settings timed e.moment) (λ n k. replies_silent n (λ r at. due_on_other n r at (is_among n (nth timed.requests n) (λ z. k (times-due settings timed e.moment n ∙ z)))))
     where
       is_among : (n : ℕ) (o : Option Request) → (option_or_else o zero (λ r. one_if (is_due settings e.moment r)) ≡ zero → ⊥) → passes_option (is_due settings e.moment) o ≡ true
       is_among n None h = absurd (h refl)
@@ -352,7 +392,7 @@ module _ (settings : Settings) (e : Entry) (g : List Entry) (conn : ℕ) (c : Co
   opened_silent Tick = refl
 
   abbrev continued : Option ℕ
-  continued = (after_input settings e.moment e.input (with_due_replied settings e.moment tables)).continued
+  continued = (after_input settings e.moment e.input (before_input settings e.moment e.input tables)).continued
 
   continued_silent : (f : ℕ → List (ℕ × Bytes)) → ((n : ℕ) → ((r : Request) → nth final.requests n ≡ Some r → r.conn ≢ conn) → IsSilent (f n)) → (comparison : Request → Bool) →
       IsSilent (flat_map f (option_to_list (continued_if comparison final.requests continued)))

@@ -8,17 +8,16 @@ use Rattle.da_fields.specs.declared.answer.Answer.TheVariants.{Internal}
 use Rattle.da_fields.specs.declared.answer.Why.TheVariants.{Late as WasLate}
 use Rattle.da_tables.specs.Connections.{client_may, master_may, request_number}
 use Rattle.da_lines.specs.Grants.{granted}
-use Rattle.da_play.specs.History.{keeps, kept_for, after, after_input, after_stage, follows_for, follows_from}
+use Rattle.da_play.specs.History.{keeps, kept_for, after, after_input, after_stage, before_input, follows_for, follows_from}
 use Rattle.da_request.specs.Requests.{with_decision}
-use Rattle.da_tables.specs.Tables.{with_due_replied}
 use Rattle.da_answers.specs.Hits.{after_hits, after_hit, hit_on, hit_with}
 use Rattle.da_request.specs.Requests.{new_request, is_awaiting}
 use Rattle.da_lines.specs.Lines.{continues, is_cancellable, cancels, after_client_message, after_master_message, client_line, master_line, line_on}
-use Rattle.da_answers.specs.RecordedAnswers.{is_kept, recorded_answer, answers_request, after_answer}
+use Rattle.da_answers.specs.RecordedAnswers.{is_kept, is_lost, recorded_answer, answers_request, asks_again, after_answer, after_answer_for}
 use Rattle.da_tables.specs.Queries.{is_running}
 use Rattle.da_request.specs.Requests.{with_answer}
 use Rattle.da_request.specs.Requests.{request_stage, is_undecided}
-use Rattle.da_tables.specs.Tables.{AfterInput, continuing_none, closing, with_end, continuing_new, with_connection, with_request, is_client}
+use Rattle.da_tables.specs.Tables.{AfterInput, continuing, continuing_none, closing, with_end, continuing_new, with_connection, with_request, is_client}
 use Rattle.da_request.specs.Requests.{is_of}
 use Rattle.da_play.specs.declared.input.Input.{Input}
 use Rattle.da_play.specs.declared.input.Input.TheVariants.{Opened, Line, Broken, Gone, Take, Answered, Late, Tick}
@@ -43,7 +42,7 @@ use Rattle.da_request.specs.Requests.{with_late_answer}
 use Rattle.da_answers.specs.RecordedAnswers.{answered_by}
 use Rattle.da_request.specs.Requests.{cancelled}
 use Rattle.da_tables.specs.Tables.{with_query, with_request}
-use Rattle.da_request.specs.Requests.{decision, decision_in}
+use Rattle.da_request.specs.Requests.{decision, decision_in, timed_failure}
 use Rattle.da_request.specs.declared.stages.Decision.{Decision}
 
 pub kept_requests : (settings : Settings) (query : ℕ) (answer : Answer) (o : Option QueryRow) (tables : Tables) → (kept_for settings query answer o tables).requests ≡ tables.requests
@@ -76,8 +75,8 @@ pub record EachPartKeeps (settings : Settings) (moment : ℕ) (origin : Tables) 
   pub cancel : (rs : List Request) (n : ℕ) → Q rs → Q (changed_nth cancelled rs n)
   pub end : (rs : List Request) (conn : ℕ) → Q rs → Q (map (λ r. cond (is_of conn r) (cancelled r) r) rs)
   pub login : (rs : List Request) (conn id : ℕ) (random mechanism : Bytes) (parameters : Pairs) (resp : Option Bytes) → Q rs → Q (rs ++ new_request moment conn id random (Authenticates mechanism parameters resp []) ∷ [])
-  pub lookup : (conn id pid client : ℕ) (random cookie text : Bytes) → entered ≡ Line conn text random → master_message text ≡ Some (LookupRequest id pid client cookie) → Q (with_due_replied settings moment origin).requests →
-      Q ((with_due_replied settings moment origin).requests ++ new_request moment conn id random (LooksUp (granted settings moment (with_due_replied settings moment origin) pid client cookie)) ∷ [])
+  pub lookup : (conn id pid client : ℕ) (random cookie text : Bytes) → entered ≡ Line conn text random → master_message text ≡ Some (LookupRequest id pid client cookie) → Q (before_input settings moment entered origin).requests →
+      Q ((before_input settings moment entered origin).requests ++ new_request moment conn id random (LooksUp (granted settings moment (before_input settings moment entered origin) pid client cookie)) ∷ [])
   pub decide : (rs : List Request) (n : ℕ) → IsUndecidedAt rs n → HasDecisionAt settings rs n → Q rs → Q (changed_nth (with_decision settings moment) rs n)
 
 -- ---- the request that is continued is undecided
@@ -112,7 +111,7 @@ pub record IsSound (Q : List Request → Type 0) (h : AfterInput) : Type 0 where
 
 module _ (settings : Settings) (moment : ℕ) (origin : Tables) (entered : Input) (Q : List Request → Type 0) (k : EachPartKeeps settings moment origin entered Q) where
   abbrev before : Tables
-  before = with_due_replied settings moment origin
+  before = before_input settings moment entered origin
 
   sound_applies : (tables : Tables) → Q tables.requests → IsSound Q (continuing_none tables)
   sound_applies tables q = record { kept = q; continued = tt }
@@ -186,10 +185,20 @@ module _ (settings : Settings) (moment : ℕ) (origin : Tables) (entered : Input
       (λ e. record { kept = k.answer tables.requests n a.db answer e q; continued = still_undecided (with_answer a.db answer) (λ r. refl) tables.requests n e })
       (λ e. sound_applies (with_request (with_late_answer a.db answer) n tables) (k.late tables.requests n a.db answer q))
 
+  sound_again : (tables : Tables) (n : ℕ) → Q tables.requests → IsSound Q (asks_again n tables)
+  sound_again tables n q = by_test (λ h. IsSound Q h) (passes_option is_undecided (nth tables.requests n)) (continuing n tables) (continuing_none tables)
+      (λ e. record { kept = q; continued = e }) (λ e. sound_applies tables q)
+
+  sound_recorded : (n : ℕ) (a : QueryRow) (answer : Answer) (tables : Tables) → Q tables.requests → IsSound Q (after_answer_for settings moment n a answer tables)
+  sound_recorded n a answer tables q =
+      let answered : Tables = with_query (answered_by settings moment (nth tables.requests a.request) answer) n tables in
+      by_test (λ h. IsSound Q h) (is_lost tables.queries n a answer) (asks_again a.request answered) (answers_request a.request a.question answer answered)
+      (λ e. sound_again answered a.request q) (λ e. sound_answers answered a.request a.question answer q)
+
   sound_records : (n : ℕ) (answer : Answer) (o : Option QueryRow) (tables : Tables) → Q tables.requests → IsSound Q (after_answer settings moment n answer o tables)
   sound_records n answer None tables q = sound_applies tables q
   sound_records n answer (Some a) tables q = by_test (λ h. IsSound Q h) (is_running a) _ (continuing_none tables)
-      (λ e. sound_answers (with_query (answered_by settings moment (nth tables.requests a.request) (recorded_answer a.question.kind answer)) n tables) a.request a.question (recorded_answer a.question.kind answer) q)
+      (λ e. sound_recorded n a (recorded_answer a.question.kind answer) tables q)
       (λ e. sound_applies tables q)
 
   pub sound_input : (input : Input) → entered ≡ input → Q before.requests → IsSound Q (after_input settings moment input before)
@@ -198,7 +207,7 @@ module _ (settings : Settings) (moment : ℕ) (origin : Tables) (entered : Input
   sound_input (Line conn text random) l q = sound_line conn text random (nth before.connections conn) l q
   sound_input (Broken conn) l q = sound_closes conn before q
   sound_input (Gone conn) l q = sound_applies (with_end conn before) (ended_keeps conn before q)
-  sound_input Take l q = sound_applies _ q
+  sound_input Take l q = sound_applies before q
   sound_input (Answered query answer) l q = sound_records query answer (nth before.queries query) before q
   sound_input (Late query) l q = sound_records query (Internal WasLate) (nth before.queries query) before q
   sound_input Tick l q = sound_applies before q
@@ -223,7 +232,9 @@ module _ (settings : Settings) (moment : ℕ) (origin : Tables) (entered : Input
 
   stage_decides : (n : ℕ) (r : Request) (d : Decision) (rs : List Request) → nth rs n ≡ Some r → request_stage settings r ≡ Decided d → HasDecisionAt settings rs n
   unfolding decision
-  stage_decides n r d rs is e = ap (passes_option (λ q. is_some (decision settings q))) is ∙ ap (λ s. is_some (decision_in s)) e
+  stage_decides n r d rs is e =
+      ap (passes_option (λ q. is_some (decision settings q))) is
+      ∙ by_test (λ (o : Option Decision). is_some o ≡ true) r.is_timed_out (Some (timed_failure settings r)) (decision_in (request_stage settings r)) (λ t. refl) (λ f. ap (λ s. is_some (decision_in s)) e)
 
   sound_follows : (n : ℕ) (o : Option Request) (tables : Tables) → nth tables.requests n ≡ o → IsHit n tables.requests → Q (follows_for settings moment n o tables).requests
   sound_follows n None tables is h = h.kept

@@ -19,15 +19,15 @@ use Rattle.da_msgs.specs.declared.master.MasterMsg.TheVariants.{Version as Maste
 use Rattle.da_keys.specs.Keys.{with_key}
 use Rattle.da_tables.specs.Connections.{client_may, has_pid, master_may, request_number}
 use Rattle.da_lines.specs.Grants.{granted}
-use Rattle.da_play.specs.History.{after, after_input, after_stage, after_continued, keeps, kept_for, follows_for, follows_from}
+use Rattle.da_play.specs.History.{after, after_input, after_stage, after_continued, before_input, before_replies, keeps, kept_for, follows_for, follows_from, with_handed_out}
 use Rattle.da_request.specs.Requests.{with_decision}
-use Rattle.da_tables.specs.Tables.{with_due_replied}
+use Rattle.da_tables.specs.Tables.{with_due_replied, with_timed_out}
 use Rattle.da_tables.specs.Queries.{as_taken}
 use Rattle.da_answers.specs.Hits.{after_hits, after_hit, hit_on, hit_with, answer_of}
 use Rattle.da_request.specs.Requests.{new_request, is_awaiting, with_text}
 use Rattle.da_lines.specs.Lines.{continues, is_cancellable, cancels, after_client_message, after_master_message, client_line, master_line, line_on, line_by}
 use Rattle.da_tables.specs.Connections.{with_version, with_pid}
-use Rattle.da_answers.specs.RecordedAnswers.{after_answer, after_answer_for, recorded_answer, is_kept, key_of, ttl_of, answered_by}
+use Rattle.da_answers.specs.RecordedAnswers.{after_answer, after_answer_for, answers_request, asks_again, recorded_answer, is_kept, is_lost, key_of, ttl_of, answered_by}
 use Rattle.da_tables.specs.Queries.{is_running, is_running_in, first_waiting, with_new_query}
 use Rattle.da_request.specs.Requests.{with_answer, with_late_answer}
 use Rattle.da_play.specs.History.{Tells}
@@ -124,6 +124,58 @@ answer_in o = option_and_then (λ (a : QueryRow). option_map (λ (p : Answer × 
 
 -- ---- the parts
 
+-- what comes before the input's own effect gives U, a fact on the tables: the query of a Take is handed out, requests are
+-- timed out, and the replies that are due are given
+pub record BeforeParts (settings : Settings) (moment : ℕ) (origin : Tables) (entered : Input) (S T U : Tables → Type 0) : Type 0 where
+  pub takes : entered ≡ Take → S (with_query (as_taken moment) (first_waiting origin) origin)
+  pub stays : S origin
+  pub times_out : (tables : Tables) → S tables → T (with_timed_out settings moment tables)
+  pub replies : (tables : Tables) → T tables → U (with_due_replied settings moment tables)
+
+module _ (settings : Settings) (moment : ℕ) (origin : Tables) (entered : Input) (S T U : Tables → Type 0) (k : BeforeParts settings moment origin entered S T U) where
+  handed_out : (input : Input) → entered ≡ input → S (with_handed_out moment input origin)
+  handed_out (Opened kind random) l = k.stays
+  handed_out (Line conn text random) l = k.stays
+  handed_out (Broken conn) l = k.stays
+  handed_out (Gone conn) l = k.stays
+  handed_out Take l = k.takes l
+  handed_out (Answered query given) l = k.stays
+  handed_out (Late query) l = k.stays
+  handed_out Tick l = k.stays
+
+  pub before_replies_gives : T (before_replies settings moment entered origin)
+  before_replies_gives = k.times_out (with_handed_out moment entered origin) (handed_out entered refl)
+
+  pub before_gives : U (before_input settings moment entered origin)
+  unfolding before_input
+  before_gives = k.replies (before_replies settings moment entered origin) before_replies_gives
+
+-- what comes before an input's own effect leaves the connections as they are
+pub connections_before : (settings : Settings) (moment : ℕ) (origin : Tables) (entered : Input) → (before_input settings moment entered origin).connections ≡ origin.connections
+unfolding with_due_replied with_timed_out
+connections_before settings moment origin entered =
+    before_gives settings moment origin entered (λ t. t.connections ≡ origin.connections) (λ t. t.connections ≡ origin.connections) (λ t. t.connections ≡ origin.connections)
+    (record { takes = λ l. refl; stays = refl; times_out = λ t q. q; replies = λ t q. q })
+
+-- and the queries but for the one that is handed out
+pub queries_before : (settings : Settings) (moment : ℕ) (origin : Tables) (entered : Input) → (before_input settings moment entered origin).queries ≡ (with_handed_out moment entered origin).queries
+unfolding before_input with_due_replied with_timed_out
+queries_before settings moment origin entered = refl
+
+-- so where an answer is told, all queries
+pub told_queries : (settings : Settings) (moment : ℕ) (origin : Tables) (entered : Input) (query : ℕ) (given : Answer) → Tells entered query given → (before_input settings moment entered origin).queries ≡ origin.queries
+told_queries settings moment origin entered query given t = queries_before settings moment origin entered ∙ go entered t
+  where
+    go : (i : Input) → Tells i query given → (with_handed_out moment i origin).queries ≡ origin.queries
+    go (Opened kind random) x = absurd x
+    go (Line conn text random) x = absurd x
+    go (Broken conn) x = absurd x
+    go (Gone conn) x = absurd x
+    go Take x = absurd x
+    go (Answered n answer) x = refl
+    go (Late n) x = refl
+    go Tick x = absurd x
+
 -- the input's own effect gives P, a fact on the tables and the request that continues
 pub record InputParts (settings : Settings) (moment : ℕ) (before : Tables) (entered : Input) (P : Tables → Option ℕ → Type 0) : Type 0 where
   pub opens : (kind : ConnKind) (random : Bytes) → entered ≡ Opened kind random → P before None → P (opened kind random before) None
@@ -136,12 +188,17 @@ pub record InputParts (settings : Settings) (moment : ℕ) (before : Tables) (en
       P (with_request (with_text text) (request_number before conn id) before) (Some (request_number before conn id))
   pub makes : (conn id : ℕ) (random : Bytes) (body : Body) → IsMade settings moment before entered conn id random body → P before None →
       P (record before { requests = before.requests ++ new_request moment conn id random body ∷ [] }) (Some (suc (length before.requests)))
-  pub takes : entered ≡ Take → P before None → P (with_query (as_taken moment) (first_waiting before) before) None
+  pub loses : (query : ℕ) (given : Answer) (a : QueryRow) → Tells entered query given → nth before.queries query ≡ Some a → is_running a ≡ true →
+      is_lost before.queries query a (recorded_answer a.question.kind given) ≡ true → IsUndecidedAt before.requests a.request → P before None →
+      P (recorded settings moment before query a given) (Some a.request)
+  pub loses_late : (query : ℕ) (given : Answer) (a : QueryRow) → Tells entered query given → nth before.queries query ≡ Some a → is_running a ≡ true →
+      is_lost before.queries query a (recorded_answer a.question.kind given) ≡ true → passes_option is_undecided (nth before.requests a.request) ≡ false → P before None →
+      P (recorded settings moment before query a given) None
   pub answers : (query : ℕ) (given : Answer) (a : QueryRow) → Tells entered query given → nth before.queries query ≡ Some a → is_running a ≡ true →
-      IsUndecidedAt before.requests a.request → P before None →
+      is_lost before.queries query a (recorded_answer a.question.kind given) ≡ false → IsUndecidedAt before.requests a.request → P before None →
       P (with_request (with_answer a.question.db (recorded_answer a.question.kind given)) a.request (recorded settings moment before query a given)) (Some a.request)
   pub lates : (query : ℕ) (given : Answer) (a : QueryRow) → Tells entered query given → nth before.queries query ≡ Some a → is_running a ≡ true →
-      passes_option is_undecided (nth before.requests a.request) ≡ false → P before None →
+      is_lost before.queries query a (recorded_answer a.question.kind given) ≡ false → passes_option is_undecided (nth before.requests a.request) ≡ false → P before None →
       P (with_request (with_late_answer a.question.db (recorded_answer a.question.kind given)) a.request (recorded settings moment before query a given)) None
 
 -- hits give Q, a fact on the tables, the request that continues and the hits that it has had, and what follows for it gives R
@@ -253,14 +310,22 @@ module _ (settings : Settings) (moment : ℕ) (before : Tables) (entered : Input
   sound_answers : (query : ℕ) (given : Answer) (a : QueryRow) → Tells entered query given → nth before.queries query ≡ Some a → is_running a ≡ true → P before None →
       IsSound (after_answer_for settings moment query a (recorded_answer a.question.kind given) before)
   sound_answers query given a g is run p =
-      by_test IsSound (passes_option is_undecided (nth before.requests a.request))
+      by_test IsSound (is_lost before.queries query a (recorded_answer a.question.kind given))
+      (asks_again a.request (recorded settings moment before query a given))
+      (answers_request a.request a.question (recorded_answer a.question.kind given) (recorded settings moment before query a given))
+      (λ lost. by_test IsSound (passes_option is_undecided (nth before.requests a.request))
+      (continuing a.request (recorded settings moment before query a given))
+      (continuing_none (recorded settings moment before query a given))
+      (λ e. record { fact = k.loses query given a g is run lost e p; continued = e })
+      (λ e. quiet _ (k.loses_late query given a g is run lost e p)))
+      (λ heard. by_test IsSound (passes_option is_undecided (nth before.requests a.request))
       (continuing a.request (with_request (with_answer a.question.db (recorded_answer a.question.kind given)) a.request (recorded settings moment before query a given)))
       (continuing_none (with_request (with_late_answer a.question.db (recorded_answer a.question.kind given)) a.request (recorded settings moment before query a given)))
       (λ e. record {
-        fact = k.answers query given a g is run e p;
+        fact = k.answers query given a g is run heard e p;
         continued = still_undecided (with_answer a.question.db (recorded_answer a.question.kind given)) (λ r. refl) before.requests a.request e;
       })
-      (λ e. quiet _ (k.lates query given a g is run e p))
+      (λ e. quiet _ (k.lates query given a g is run heard e p)))
 
   sound_records : (query : ℕ) (given : Answer) → Tells entered query given → (o : Option QueryRow) → nth before.queries query ≡ o → P before None →
       IsSound (after_answer settings moment query given o before)
@@ -274,7 +339,7 @@ module _ (settings : Settings) (moment : ℕ) (before : Tables) (entered : Input
   sound_input (Line conn text random) l p = sound_line conn text random l (nth before.connections conn) refl p
   sound_input (Broken conn) l p = sound_ends conn (subst (λ (i : Input). Ends before i conn) (sym l) refl) p
   sound_input (Gone conn) l p = quiet _ (k.ends conn (subst (λ (i : Input). Ends before i conn) (sym l) refl) p)
-  sound_input Take l p = quiet _ (k.takes l p)
+  sound_input Take l p = quiet before p
   sound_input (Answered query given) l p = sound_records query given (subst (λ (i : Input). Tells i query given) (sym l) (refl, refl)) (nth before.queries query) refl p
   sound_input (Late query) l p = sound_records query (Internal WasLate) (subst (λ (i : Input). Tells i query (Internal WasLate)) (sym l) (refl, refl)) (nth before.queries query) refl p
   sound_input Tick l p = quiet before p
@@ -349,7 +414,7 @@ module _ (settings : Settings) (moment : ℕ) (before : Tables) (entered : Input
 -- what its parts give, an entry gives
 module _ (settings : Settings) (origin : Tables) (e : Entry) (Q : Tables → Option ℕ → List ℕ → Type 0) (R : Tables → Option ℕ → Type 0) where
   abbrev before : Tables
-  before = with_due_replied settings e.moment origin
+  before = before_input settings e.moment e.input origin
 
   pub an_entry_gives : InputParts settings e.moment before e.input (λ tables m. Q tables m []) → ContinuedParts settings e.moment before e.input e.hits Q R → Q before None [] →
       R (after settings origin e) (after_input settings e.moment e.input before).continued

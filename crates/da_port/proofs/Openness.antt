@@ -9,7 +9,7 @@ use Rattle.da_msgs.specs.declared.client.ClientMsg.TheVariants.{Auth, Cancel, Co
 use Rattle.da_msgs.specs.declared.master.MasterMsg.{MasterMsg}
 use Rattle.da_msgs.specs.declared.master.MasterMsg.TheVariants.{Other as MasterOther, Request as LookupRequest, Version as MasterVersion}
 use Rattle.da_play.specs.Effects.{effects}
-use Rattle.da_play.specs.History.{after_input, tables_of}
+use Rattle.da_play.specs.History.{after_input, before_input, tables_of}
 use Rattle.da_play.specs.Legal.{entry_moment}
 use Rattle.da_play.specs.Play.{next_entry, outputs, reply}
 use Rattle.da_play.specs.declared.input.Entry.{Entry}
@@ -21,7 +21,7 @@ use Rattle.da_request.specs.Requests.{cancelled, is_awaiting, with_text}
 use Rattle.da_settings.specs.declared.settings.Settings.{Settings}
 use Rattle.da_tables.proofs.Cases.{by_test}
 use Rattle.da_tables.specs.Connections.{client_may, master_may, request_number}
-use Rattle.da_tables.specs.Tables.{AfterInput, closing, continuing, continuing_none, is_client, is_open_in, with_due_replied, with_request}
+use Rattle.da_tables.specs.Tables.{AfterInput, closing, continuing, continuing_none, is_client, is_open_in, with_request}
 use Rattle.da_tables.specs.declared.connections.Connection.{Connection}
 use Rattle.da_tables.specs.declared.tables.Tables.{Tables}
 
@@ -75,7 +75,7 @@ module _ (settings : Settings) (h : List Entry) (m conn : ℕ) (text random : By
 
   closed_itself : (closed_at ≡ None) ⊎ (closed_at ≡ Some conn)
   unfolding effects next_entry after_input ClosesItself
-  closed_itself = closes_line settings line.moment conn random (with_due_replied settings line.moment (tables_of settings h)) text (nth (with_due_replied settings line.moment (tables_of settings h)).connections conn)
+  closed_itself = closes_line settings line.moment conn random (before_input settings line.moment (Line conn text random) (tables_of settings h)) text (nth (before_input settings line.moment (Line conn text random) (tables_of settings h)).connections conn)
 
   -- a connection that was open is so after the line, unless it is closed
   open_unless : (o : Option ℕ) → (o ≡ None) ⊎ (o ≡ Some conn) → (true && not (passes_option (λ n. n == conn) o)) ≡ is_none o

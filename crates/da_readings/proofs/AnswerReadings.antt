@@ -1,15 +1,16 @@
 -- The answers of a request are those of its own queries and of its hits; the cacheable answers are the answers that may be kept.
-use Rattle.std.proofs.Common.{◌≡◌, refl, ◌∙◌, ap, Option, Some, None, [], ◌∷◌, ◌++◌, ℕ, Bool, true, false, cond, ◌&&◌, true≢false}
-use Rattle.da_play.proofs.EntryParts.{InputParts, ContinuedParts, IsSound, sound_input, continued_gives, with_kept}
+use Rattle.std.proofs.Common.{◌≡◌, refl, sym, ◌∙◌, ap, ap₂, subst, Option, Some, None, List, [], ◌∷◌, ◌++◌, ℕ, Bool, true, false, cond, ◌&&◌, true≢false}
+use Rattle.da_play.proofs.EntryParts.{InputParts, ContinuedParts, IsSound, sound_input, continued_gives, with_kept, before_gives, told_queries}
 use Rattle.da_steps.proofs.Standing.{input_stands, continued_stands, all_same}
 use Rattle.da_base.specs.Words.{nth, passes_option, option_or_else}
 use Rattle.da_readings.specs.ListReadings.{kept_query, CacheableAreRead}
-use Rattle.da_play.specs.History.{tables_of, after, after_input, after_continued, keeps, kept_for}
-use Rattle.da_tables.specs.Tables.{with_due_replied}
+use Rattle.da_play.specs.History.{tables_of, after, after_input, after_continued, before_input, keeps, kept_for}
+use Rattle.da_tables.specs.Tables.{with_due_replied, with_timed_out}
 use Rattle.da_answers.specs.RecordedAnswers.{is_kept, recorded_answer}
 use Rattle.da_tables.specs.Queries.{is_running, is_running_in}
 use Rattle.da_steps.specs.Standing.{TablesStand, QueryStands}
 use Rattle.da_tables.specs.Tables.{AfterInput, with_end}
+use Rattle.da_play.specs.History.{Tells}
 use Rattle.da_play.specs.declared.input.Entry.{Entry}
 use Rattle.da_play.specs.declared.input.Input.{Input}
 use Rattle.da_play.specs.declared.input.Input.TheVariants.{Opened, Line, Broken, Gone, Take, Answered, Late, Tick}
@@ -26,7 +27,7 @@ is_tick _ = false
 
 module _ (settings : Settings) (e : Entry) (origin : Tables) where
   abbrev before : Tables
-  before = with_due_replied settings e.moment origin
+  before = before_input settings e.moment e.input origin
 
   abbrev h : AfterInput
   h = after_input settings e.moment e.input before
@@ -51,9 +52,10 @@ module _ (settings : Settings) (e : Entry) (origin : Tables) where
     cancels = λ n x p. record { cacheable = p.cacheable; tables = stand.cancels n x p.tables };
     texts = λ conn id random text m r is w p. record { cacheable = p.cacheable; tables = stand.texts conn id random text m r is w p.tables };
     makes = λ conn id random body m p. record { cacheable = p.cacheable; tables = stand.makes conn id random body m p.tables };
-    takes = λ l p. record { cacheable = p.cacheable; tables = stand.takes l p.tables };
-    answers = λ query given a g is run u p. record { cacheable = p.cacheable; tables = stand.answers query given a g is run u p.tables };
-    lates = λ query given a g is run u p. record { cacheable = p.cacheable; tables = stand.lates query given a g is run u p.tables };
+    loses = λ query given a g is run lost u p. record { cacheable = p.cacheable; tables = stand.loses query given a g is run lost u p.tables };
+    loses_late = λ query given a g is run lost u p. record { cacheable = p.cacheable; tables = stand.loses_late query given a g is run lost u p.tables };
+    answers = λ query given a g is run heard u p. record { cacheable = p.cacheable; tables = stand.answers query given a g is run heard u p.tables };
+    lates = λ query given a g is run heard u p. record { cacheable = p.cacheable; tables = stand.lates query given a g is run heard u p.tables };
   }
 
   -- what comes before an answer is kept is the same for every input: for a Tick nothing is kept
@@ -112,9 +114,26 @@ module _ (settings : Settings) (e : Entry) (origin : Tables) where
           by_run true = kept_row (u.tables.queries query a is)
           by_run false = u.cacheable
 
+  -- nothing is kept before the input's own effect
+  same_cacheable : before.cacheable ≡ origin.cacheable
+  unfolding with_due_replied with_timed_out
+  same_cacheable = before_gives settings e.moment origin e.input (λ t. t.cacheable ≡ origin.cacheable) (λ t. t.cacheable ≡ origin.cacheable) (λ t. t.cacheable ≡ origin.cacheable)
+      (record { takes = λ l. refl; stays = refl; times_out = λ t q. q; replies = λ t q. q })
+
+  -- and an answer is told to the queries as they were
+  same_kept : (i : Input) → e.input ≡ i → kept_query before.queries i ≡ kept_query origin.queries i
+  same_kept (Opened kind random) l = refl
+  same_kept (Line conn text random) l = refl
+  same_kept (Broken conn) l = refl
+  same_kept (Gone conn) l = refl
+  same_kept Take l = refl
+  same_kept (Answered query given) l = ap (λ (qs : List QueryRow). kept_query qs (Answered query given)) (told_queries settings e.moment origin e.input query given (subst (λ (i : Input). Tells i query given) (sym l) (refl, refl)))
+  same_kept (Late query) l = refl
+  same_kept Tick l = refl
+
   entry_kept : (after settings origin e).cacheable ≡ kept_query origin.queries e.input ++ origin.cacheable
-  unfolding after with_due_replied
-  entry_kept = keeps_on_top last last_unkept e.input
+  unfolding after
+  entry_kept = keeps_on_top last last_unkept e.input ∙ ap₂ (λ (xs ys : List ℕ). xs ++ ys) (same_kept e.input refl) same_cacheable
 
 pub cacheable_are_read : CacheableAreRead
 cacheable_are_read settings [] = refl

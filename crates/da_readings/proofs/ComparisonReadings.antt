@@ -2,20 +2,20 @@
 use Rattle.std.proofs.Common.{◌≡◌, ◌⊎◌, inl, inr, refl, sym, ◌∙◌, ap, ap₂, subst, Option, Some, None, List, [], ◌∷◌, ◌++◌, ℕ, zero, suc, Bool, true, false, cond, option_to_list, option_map, option_and_then, is_some, ◌&&◌, append-nil, append_assoc, ◌==◌, eq-eqb, ne_eqb}
 use Rattle.da_tables.proofs.Cases.{and_second, not_true}
 use Rattle.da_play.proofs.EntryInduction.{ContinuedUndecided}
-use Rattle.da_play.proofs.EntryParts.{InputParts, ContinuedParts, IsSound, sound_input, continued_gives}
+use Rattle.da_play.proofs.EntryParts.{InputParts, ContinuedParts, IsSound, sound_input, continued_gives, before_gives, told_queries}
 use Rattle.da_invariants.proofs.KeysLaw.{IsRecorded, told_is_recorded}
 use Rattle.da_invariants.proofs.OpenQueries.{none_there}
 use Rattle.da_invariants.proofs.KnownHits.{IsKnown, AllKnown, one_known, continued_known, known_under, IsSameHit, same_hit, known_stays}
 use Rattle.da_readings.proofs.OwnAnswers.{told_given, given_of}
 use Rattle.da_tables.proofs.Rows.{same_or_not, nth-changed, nth-unchanged, passing, listed, listed_at, changed_listed, new_listed}
-use Rattle.da_steps.proofs.Standing.{input_stands, continued_stands, due_stand, rest_stands, tables_later, all_same}
+use Rattle.da_steps.proofs.Standing.{input_stands, continued_stands, before_stands, rest_stands, tables_later, all_same}
 use Rattle.da_base.specs.Words.{nth, changed_nth, passes_option, option_or_else}
 use Rattle.da_fields.specs.Answers.{Answers}
 use Rattle.da_fields.specs.declared.answer.Answer.{Answer}
 use Rattle.da_answers.specs.RecordedAnswers.{answer_under}
 use Rattle.da_readings.specs.ListReadings.{told_query, use_by, own_use, own_comparisons, with_one_hit, hit_use, hit_comparisons, uses_read, ComparisonsAreRead}
-use Rattle.da_play.specs.History.{tables_of, after, after_input}
-use Rattle.da_tables.specs.Tables.{with_due_replied}
+use Rattle.da_play.specs.History.{tables_of, after, after_input, before_input}
+use Rattle.da_tables.specs.Tables.{with_due_replied, with_timed_out}
 use Rattle.da_tables.specs.Queries.{as_taken}
 use Rattle.da_answers.specs.Hits.{hit_with, hit_comparison}
 use Rattle.da_tables.specs.Queries.{used_again}
@@ -74,7 +74,7 @@ none false = refl
 
 module _ (settings : Settings) (e : Entry) (origin : Tables) where
   abbrev before : Tables
-  before = with_due_replied settings e.moment origin
+  before = before_input settings e.moment e.input origin
 
   abbrev h : AfterInput
   h = after_input settings e.moment e.input before
@@ -114,10 +114,6 @@ module _ (settings : Settings) (e : Entry) (origin : Tables) where
   unfolding with_end
   end_tested conn = untouched
 
-  take_tested : e.input ≡ Take → Tested (record before { queries = changed_nth (as_taken e.moment) before.queries (first_waiting before) })
-  take_tested l k = changed_listed tests_of (as_taken e.moment) (λ a. refl) before.queries (first_waiting before) k
-      ∙ sym (ap (λ (o : Option ℕ). option_or_else o [] (own_comparisons settings before.requests before.queries (changed_nth (as_taken e.moment) before.queries (first_waiting before)) k) ++ tests_at before.queries k) (ap told_query l))
-
   -- an answer is told
   tell_tested : (query : ℕ) (given : Answer) (a : QueryRow) → Tells e.input query given → nth before.queries query ≡ Some a → is_running a ≡ true → (k : ℕ) →
       tests_at (changed_nth (answered_by settings e.moment (nth before.requests a.request) (recorded_answer a.question.kind given)) before.queries query) k
@@ -138,9 +134,10 @@ module _ (settings : Settings) (e : Entry) (origin : Tables) where
     cancels = λ n x p. p;
     texts = λ conn id random text m r is w p. p;
     makes = λ conn id random body m p. p;
-    takes = λ l p. take_tested l;
-    answers = λ query given a g is run u p. tell_tested query given a g is run;
-    lates = λ query given a g is run u p. tell_tested query given a g is run;
+    loses = λ query given a g is run lost u p. tell_tested query given a g is run;
+    loses_late = λ query given a g is run lost u p. tell_tested query given a g is run;
+    answers = λ query given a g is run heard u p. tell_tested query given a g is run;
+    lates = λ query given a g is run heard u p. tell_tested query given a g is run;
   }
 
   -- ---- hits
@@ -287,26 +284,54 @@ module _ (settings : Settings) (e : Entry) (origin : Tables) where
 
 -- ---- a legal history
 
+-- what comes before the input's own effect tests nothing
+abbrev SameTests : Tables → Tables → Type 0
+SameTests origin tables = (k : ℕ) → tests_at tables.queries k ≡ tests_at origin.queries k
+
+tests_before : (settings : Settings) (e : Entry) (origin : Tables) → SameTests origin (before_input settings e.moment e.input origin)
+unfolding with_due_replied with_timed_out
+tests_before settings e origin = before_gives settings e.moment origin e.input (SameTests origin) (SameTests origin) (SameTests origin) (record {
+  takes = λ l k. changed_listed tests_of (as_taken e.moment) (λ a. refl) origin.queries (first_waiting origin) k;
+  stays = λ k. refl;
+  times_out = λ tables q. q;
+  replies = λ tables q. q;
+})
+
+-- an answer is told to the queries as they were before the entry
+told_before : (settings : Settings) (e : Entry) (origin : Tables) (after_entry : List QueryRow) (k : ℕ) →
+    option_or_else (told_query e.input) [] (own_comparisons settings (before_input settings e.moment e.input origin).requests (before_input settings e.moment e.input origin).queries after_entry k)
+    ≡ option_or_else (told_query e.input) [] (own_comparisons settings (before_input settings e.moment e.input origin).requests origin.queries after_entry k)
+told_before settings e origin after_entry k = go (told_query e.input) refl
+  where
+    go : (o : Option ℕ) → told_query e.input ≡ o →
+        option_or_else o [] (own_comparisons settings (before_input settings e.moment e.input origin).requests (before_input settings e.moment e.input origin).queries after_entry k)
+        ≡ option_or_else o [] (own_comparisons settings (before_input settings e.moment e.input origin).requests origin.queries after_entry k)
+    go None x = refl
+    go (Some j) x =
+        let t : (given : Answer) × Tells e.input j given = given_of e.input j x in
+        ap (λ (qs : List QueryRow). own_comparisons settings (before_input settings e.moment e.input origin).requests qs after_entry k j) (told_queries settings e.moment origin e.input j t.0 t.1)
+
 one_entry : (settings : Settings) (e : Entry) (tables : Tables) →
-    ContinuedHits settings e.moment tables (option_and_then (nth (after_input settings e.moment e.input (with_due_replied settings e.moment tables)).tables.requests) (after_input settings e.moment e.input (with_due_replied settings e.moment tables)).continued) e.hits →
+    ContinuedHits settings e.moment tables (option_and_then (nth (after_input settings e.moment e.input (before_input settings e.moment e.input tables)).tables.requests) (after_input settings e.moment e.input (before_input settings e.moment e.input tables)).continued) e.hits →
     (k : ℕ) → tests_at (after settings tables e).queries k
-    ≡ option_or_else (option_and_then (nth (after_input settings e.moment e.input (with_due_replied settings e.moment tables)).tables.requests) (after_input settings e.moment e.input (with_due_replied settings e.moment tables)).continued) [] (λ r. hit_comparisons settings tables.queries r e.hits k)
-    ++ (option_or_else (told_query e.input) [] (own_comparisons settings (with_due_replied settings e.moment tables).requests tables.queries (after settings tables e).queries k) ++ tests_at tables.queries k)
-unfolding with_due_replied
+    ≡ option_or_else (option_and_then (nth (after_input settings e.moment e.input (before_input settings e.moment e.input tables)).tables.requests) (after_input settings e.moment e.input (before_input settings e.moment e.input tables)).continued) [] (λ r. hit_comparisons settings tables.queries r e.hits k)
+    ++ (option_or_else (told_query e.input) [] (own_comparisons settings (before_input settings e.moment e.input tables).requests tables.queries (after settings tables e).queries k) ++ tests_at tables.queries k)
 one_entry settings e tables hits k =
-    let before : Tables = with_due_replied settings e.moment tables in
+    let before : Tables = before_input settings e.moment e.input tables in
     let h : AfterInput = after_input settings e.moment e.input before in
     let s : IsSound settings e.moment before e.input (λ x m. TablesStand before x) _ h =
     sound_input settings e.moment before e.input (λ x m. TablesStand before x) (input_stands settings e.moment before before e.input e.hits) e.input refl (all_same before) in
-    entry_tests settings e tables (tables_later tables before h.tables (due_stand settings e.moment tables) s.fact) (continued_known settings e.moment tables _ e.hits hits) k
+    entry_tests settings e tables (tables_later tables before h.tables (before_stands settings e.moment e.input tables) s.fact) (continued_known settings e.moment tables _ e.hits hits) k
+    ∙ ap₂ (λ (xs ys : List Bool). option_or_else (option_and_then (nth h.tables.requests) h.continued) [] (λ r. hit_comparisons settings tables.queries r e.hits k) ++ (xs ++ ys))
+    (told_before settings e tables (after settings tables e).queries k) (tests_before settings e tables k)
 
 all_tests : (settings : Settings) (h : List Entry) → IsLegal settings h → (k : ℕ) → tests_at (tables_of settings h).queries k ≡ uses_read settings h k
 all_tests settings [] legal zero = refl
 all_tests settings [] legal (suc k) = refl
 all_tests settings (e ∷ g) legal k =
     one_entry settings e (tables_of settings g) legal.1.hits k
-    ∙ ap (λ (xs : List Bool). option_or_else (option_and_then (nth (after_input settings e.moment e.input (with_due_replied settings e.moment (tables_of settings g))).tables.requests) (after_input settings e.moment e.input (with_due_replied settings e.moment (tables_of settings g))).continued) [] (λ r. hit_comparisons settings (tables_of settings g).queries r e.hits k)
-    ++ (option_or_else (told_query e.input) [] (own_comparisons settings (with_due_replied settings e.moment (tables_of settings g)).requests (tables_of settings g).queries (after settings (tables_of settings g) e).queries k) ++ xs)) (all_tests settings g legal.0 k)
+    ∙ ap (λ (xs : List Bool). option_or_else (option_and_then (nth (after_input settings e.moment e.input (before_input settings e.moment e.input (tables_of settings g))).tables.requests) (after_input settings e.moment e.input (before_input settings e.moment e.input (tables_of settings g))).continued) [] (λ r. hit_comparisons settings (tables_of settings g).queries r e.hits k)
+    ++ (option_or_else (told_query e.input) [] (own_comparisons settings (before_input settings e.moment e.input (tables_of settings g)).requests (tables_of settings g).queries (after settings (tables_of settings g) e).queries k) ++ xs)) (all_tests settings g legal.0 k)
 
 pub comparisons_are_read : ComparisonsAreRead
 comparisons_are_read settings h legal k a is = sym (ap (listed tests_of) is) ∙ all_tests settings h legal k

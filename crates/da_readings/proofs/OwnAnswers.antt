@@ -1,23 +1,24 @@
 -- The answers of a request are those of its own queries and of its hits, in order.
-use Rattle.std.proofs.Common.{◌≡◌, ◌⊎◌, inl, inr, refl, sym, ◌∙◌, ap, ap₂, subst, Option, Some, None, List, [], ◌∷◌, ◌++◌, ℕ, zero, suc, Bool, true, false, cond, map, flat_map, option_map, option_and_then, is_some, ◌&&◌, append-nil, append_assoc, ◌==◌, eq-eqb, ne_eqb}
+use Rattle.std.proofs.Common.{◌≡◌, ◌⊎◌, inl, inr, refl, sym, ◌∙◌, ap, ap₂, subst, Option, Some, None, List, [], ◌∷◌, ◌++◌, ℕ, zero, suc, Bool, true, false, cond, map, flat_map, option_map, option_and_then, is_some, not, ◌&&◌, append-nil, append_assoc, ◌==◌, eq-eqb, ne_eqb}
 use Rattle.std.proofs.lemmas.Option.{none-some, same_Some}
 use Rattle.da_tables.proofs.Cases.{by_test, and_second, not_true}
-use Rattle.da_play.proofs.EntryParts.{InputParts, ContinuedParts, IsSound, sound_input, continued_gives}
+use Rattle.da_play.proofs.EntryParts.{InputParts, ContinuedParts, IsSound, sound_input, continued_gives, before_gives, told_queries}
 use Rattle.da_invariants.proofs.KeysLaw.{IsRecorded, told_is_recorded}
 use Rattle.da_invariants.proofs.KnownHits.{IsKnown, AllKnown, one_known, continued_known, known_under, told_row, IsSameHit, same_hit, known_stays}
-use Rattle.da_invariants.proofs.OpenQueries.{AllAsked, history_asked, due_all_asked, none_there}
+use Rattle.da_invariants.proofs.Lost.{SameQuery, lost_once_told, lost_later}
+use Rattle.da_invariants.proofs.OpenQueries.{AllAsked, history_asked, before_all_asked, none_there}
 use Rattle.da_tables.proofs.Rows.{same_or_not, nth-changed, nth-unchanged, passing, listed, listed_at, changed_listed, map_listed, new_listed}
-use Rattle.da_steps.proofs.Standing.{input_stands, continued_stands, due_stand, rest_stands, tables_later, all_same}
+use Rattle.da_steps.proofs.Standing.{input_stands, continued_stands, before_stands, rest_stands, tables_later, all_same}
 use Rattle.da_base.specs.Words.{nth, changed_nth, passes_option, option_or_else}
 use Rattle.da_fields.specs.Answers.{Answers}
 use Rattle.da_fields.specs.declared.answer.Answer.{Answer}
 use Rattle.da_fields.specs.declared.answer.Answer.TheVariants.{Internal}
 use Rattle.da_fields.specs.declared.answer.Why.TheVariants.{Late as WasLate}
 use Rattle.da_readings.specs.ListReadings.{if_continued, told_query, own_answer, answers_read, AnswersAreRead}
-use Rattle.da_answers.specs.RecordedAnswers.{answer_under}
-use Rattle.da_play.specs.History.{tables_of, after, after_input}
-use Rattle.da_tables.specs.Tables.{with_due_replied}
-use Rattle.da_request.specs.Requests.{with_decision, replied_if_due}
+use Rattle.da_answers.specs.RecordedAnswers.{answer_under, is_lost, is_lost_in}
+use Rattle.da_play.specs.History.{tables_of, after, after_input, before_input}
+use Rattle.da_tables.specs.Tables.{with_due_replied, with_timed_out}
+use Rattle.da_request.specs.Requests.{with_decision, replied_if_due, is_over_limit, timed_out, timed_out_if_over}
 use Rattle.da_answers.specs.Hits.{hit_with}
 use Rattle.da_play.specs.Legal.{IsLegal, ContinuedHits}
 use Rattle.da_request.specs.Requests.{new_request, with_text}
@@ -92,7 +93,7 @@ given_of Tick query x = absurd (none-some query x)
 
 module _ (settings : Settings) (e : Entry) (origin : Tables) where
   abbrev before : Tables
-  before = with_due_replied settings e.moment origin
+  before = before_input settings e.moment e.input origin
 
   abbrev h : AfterInput
   h = after_input settings e.moment e.input before
@@ -103,6 +104,11 @@ module _ (settings : Settings) (e : Entry) (origin : Tables) where
 
   unanswered : (a : QueryRow) → is_running a ≡ true → a.answer ≡ None
   unanswered a run = none_there a.answer (not_true (is_some a.answer) (and_second (is_some a.taken) _ run))
+
+  narrowed : (b c : Bool) (xs : Answers) → cond b xs [] ≡ [] → cond (b && c) xs [] ≡ []
+  narrowed true true xs x = x
+  narrowed true false xs x = refl
+  narrowed false c xs x = refl
 
   -- a query that runs has no answer
   none_own : (n k : ℕ) → own_answer before.queries before.queries n k ≡ []
@@ -116,9 +122,9 @@ module _ (settings : Settings) (e : Entry) (origin : Tables) where
           nothing true = refl
           nothing false = refl
 
-      go : (o : Option QueryRow) → nth before.queries k ≡ o → cond (passes_option (λ a. is_running a && (a.request == n)) o) (told_row o) [] ≡ []
+      go : (o : Option QueryRow) → nth before.queries k ≡ o → cond (passes_option (λ a. is_running a && (a.request == n)) o && not (is_lost_in before.queries k)) (told_row o) [] ≡ []
       go None x = refl
-      go (Some a) x = by_run a (is_running a) refl
+      go (Some a) x = narrowed (is_running a && (a.request == n)) (not (is_lost_in before.queries k)) (under a.question.db a.answer) (by_run a (is_running a) refl)
 
   none_fresh : (n : ℕ) → fresh before n ≡ []
   none_fresh n = go (told_query e.input)
@@ -144,20 +150,36 @@ module _ (settings : Settings) (e : Entry) (origin : Tables) where
   unfolding with_end
   end_grew conn = same_grew (map (as_cancelled_of conn) before.requests) (map_listed answers_of (as_cancelled_of conn) (cancelled_answers conn) before.requests)
 
-  take_grew : e.input ≡ Take → (qs : List QueryRow) → Grew (record before { queries = qs })
-  take_grew l qs n = sym (ap (λ (o : Option ℕ). answers_at before.requests n ++ option_or_else o [] (own_answer before.queries qs n)) (ap told_query l) ∙ append-nil (answers_at before.requests n))
+  -- an answer that loses its query is none of its request's
+  lost_grew : (query : ℕ) (answer : Answer) (a : QueryRow) (g : QueryRow → QueryRow) → told_query e.input ≡ Some query → nth before.queries query ≡ Some a → ((x : QueryRow) → SameQuery x (g x)) →
+      ((m : ℕ) × ((g a).answer ≡ Some (answer, m))) → is_lost before.queries query a answer ≡ true → Grew (record before { queries = changed_nth g before.queries query })
+  lost_grew query answer a g reported is keeps w lost n =
+      sym (ap (λ (xs : Answers). answers_at before.requests n ++ xs) (ap (λ (o : Option ℕ). option_or_else o [] (own_answer before.queries (changed_nth g before.queries query) n)) reported
+      ∙ ap (λ (b : Bool). cond (passes_option (λ x. is_running x && (x.request == n)) (nth before.queries query) && not b) (answer_under (changed_nth g before.queries query) query) [])
+      (lost_once_told g keeps before.queries query a (answer, w.0) is w.1 ∙ lost)
+      ∙ never (passes_option (λ x. is_running x && (x.request == n)) (nth before.queries query)))
+      ∙ append-nil (answers_at before.requests n))
+    where
+      never : (b : Bool) → cond (b && false) (answer_under (changed_nth g before.queries query) query) [] ≡ []
+      never true = refl
+      never false = refl
 
   -- an answer is told
   tell_grew : (query : ℕ) (answer : Answer) (a : QueryRow) (f : Request → Request) (g : QueryRow → QueryRow) → told_query e.input ≡ Some query → nth before.queries query ≡ Some a → is_running a ≡ true →
-      (g a).question ≡ a.question → ((m : ℕ) × ((g a).answer ≡ Some (answer, m))) → (r : Request) → nth before.requests a.request ≡ Some r → (f r).answers ≡ r.answers ++ (a.question.db, answer) ∷ [] →
+      ((x : QueryRow) → SameQuery x (g x)) → ((m : ℕ) × ((g a).answer ≡ Some (answer, m))) → is_lost before.queries query a answer ≡ false → (r : Request) → nth before.requests a.request ≡ Some r → (f r).answers ≡ r.answers ++ (a.question.db, answer) ∷ [] →
       Grew (record before { requests = changed_nth f before.requests a.request; queries = changed_nth g before.queries query })
-  tell_grew query answer a f g reported is run q w r at more n =
+  tell_grew query answer a f g reported is run keeps w heard r at more n =
       answered_more f ((a.question.db, answer) ∷ []) before.requests a.request r at more n
       ∙ sym (ap (λ xs. answers_at before.requests n ++ xs) (ap (λ (o : Option ℕ). option_or_else o [] (own_answer before.queries (changed_nth g before.queries query) n)) reported
-      ∙ ap (λ (o : Option QueryRow). cond (passes_option (λ x. is_running x && (x.request == n)) o) (answer_under (changed_nth g before.queries query) query) []) is
-      ∙ ap (λ (b : Bool). cond (b && (a.request == n)) (answer_under (changed_nth g before.queries query) query) []) run
-      ∙ ap (λ (xs : Answers). cond (a.request == n) xs [])
-      (known_under (changed_nth g before.queries query) query (g a) (answer, w.0) (nth-changed g before.queries query ∙ ap (option_map g) is) w.1 ∙ ap (λ (x : Question). (x.db, answer) ∷ []) q)))
+      ∙ ap₂ (λ (o : Option QueryRow) (b : Bool). cond (passes_option (λ x. is_running x && (x.request == n)) o && not b) (answer_under (changed_nth g before.queries query) query) [])
+      is (lost_once_told g keeps before.queries query a (answer, w.0) is w.1 ∙ heard)
+      ∙ ap (λ (b : Bool). cond (b && (a.request == n) && true) (answer_under (changed_nth g before.queries query) query) []) run
+      ∙ as_told (a.request == n)
+      (known_under (changed_nth g before.queries query) query (g a) (answer, w.0) (nth-changed g before.queries query ∙ ap (option_map g) is) w.1 ∙ ap (λ (x : Question). (x.db, answer) ∷ []) (keeps a).question)))
+    where
+      as_told : (b : Bool) → answer_under (changed_nth g before.queries query) query ≡ (a.question.db, answer) ∷ [] → cond (b && true) (answer_under (changed_nth g before.queries query) query) [] ≡ cond b ((a.question.db, answer) ∷ []) []
+      as_told true x = x
+      as_told false x = refl
 
   module _ (asked : AllAsked settings before.requests before.queries) where
     input_grew : InputParts settings e.moment before e.input (λ tables m. Grew tables)
@@ -168,18 +190,32 @@ module _ (settings : Settings) (e : Entry) (origin : Tables) where
       cancels = λ n x p. same_grew _ (changed_listed answers_of cancelled (λ r. refl) before.requests n);
       texts = λ conn id random text m r is w p. same_grew _ (changed_listed answers_of (with_text text) (λ r. refl) before.requests _);
       makes = λ conn id random body m p. same_grew _ (λ n. new_listed answers_of before.requests (new_request e.moment conn id random body) n refl);
-      takes = λ l p. take_grew l _;
-      answers = λ query given a g is run u p. of_request query a (recorded_answer a.question.kind given) is run (with_answer a.question.db (recorded_answer a.question.kind given)) (λ r d. refl) (told_given e.input query given g);
-      lates = λ query given a g is run u p. of_request query a (recorded_answer a.question.kind given) is run (with_late_answer a.question.db (recorded_answer a.question.kind given))
-          (λ r d. ap (λ (o : Option ℕ). (cond (is_some o) r (with_answer a.question.db (recorded_answer a.question.kind given) r)).answers) d) (told_given e.input query given g);
+      loses = λ query given a g is run lost u p. lost_grew query (recorded_answer a.question.kind given) a (answered_by settings e.moment (nth before.requests a.request) (recorded_answer a.question.kind given)) (told_given e.input query given g) is (λ x. record { request = refl; question = refl }) (e.moment, refl) lost;
+      loses_late = λ query given a g is run lost u p. lost_grew query (recorded_answer a.question.kind given) a (answered_by settings e.moment (nth before.requests a.request) (recorded_answer a.question.kind given)) (told_given e.input query given g) is (λ x. record { request = refl; question = refl }) (e.moment, refl) lost;
+      answers = λ query given a g is run heard u p. of_request query a (recorded_answer a.question.kind given) is run heard (with_answer a.question.db (recorded_answer a.question.kind given)) (λ r d. refl) (told_given e.input query given g);
+      lates = λ query given a g is run heard u p. of_request query a (recorded_answer a.question.kind given) is run heard (with_late_answer a.question.db (recorded_answer a.question.kind given))
+          (λ r d. ap (λ (b : Bool). (cond b r (with_answer a.question.db (recorded_answer a.question.kind given) r)).answers) d) (told_given e.input query given g);
     }
       where
-        of_request : (query : ℕ) (a : QueryRow) (answer : Answer) → nth before.queries query ≡ Some a → is_running a ≡ true → (f : Request → Request) → ((r : Request) → r.decided ≡ None → (f r).answers ≡ r.answers ++ (a.question.db, answer) ∷ []) →
+        -- who is asked isn't decided, unless it was timed out, and then it has its late answers
+        still_told : (r : Request) → (r.is_timed_out ≡ false → r.decided ≡ None) → (is_some r.decided && not r.is_timed_out) ≡ false
+        still_told r h = by_mark r.is_timed_out refl
+          where
+            none_told : (o : Option ℕ) → (is_some o && false) ≡ false
+            none_told None = refl
+            none_told (Some m) = refl
+
+            by_mark : (b : Bool) → r.is_timed_out ≡ b → (is_some r.decided && not r.is_timed_out) ≡ false
+            by_mark true d = ap (λ (c : Bool). is_some r.decided && not c) d ∙ none_told r.decided
+            by_mark false d = ap (λ (o : Option ℕ). is_some o && not r.is_timed_out) (h d)
+
+        of_request : (query : ℕ) (a : QueryRow) (answer : Answer) → nth before.queries query ≡ Some a → is_running a ≡ true → is_lost before.queries query a answer ≡ false →
+            (f : Request → Request) → ((r : Request) → (is_some r.decided && not r.is_timed_out) ≡ false → (f r).answers ≡ r.answers ++ (a.question.db, answer) ∷ []) →
             told_query e.input ≡ Some query →
             Grew (record before { requests = changed_nth f before.requests a.request; queries = changed_nth (answered_by settings e.moment (nth before.requests a.request) answer) before.queries query })
-        of_request query a answer is run f more reported =
+        of_request query a answer is run heard f more reported =
             let row : IsAsked settings before.requests before.queries query a = asked query a is (unanswered a run) in
-            tell_grew query answer a f (answered_by settings e.moment (nth before.requests a.request) answer) reported is run refl (e.moment, refl) row.request row.is_there (more row.request row.is_not_decided)
+            tell_grew query answer a f (answered_by settings e.moment (nth before.requests a.request) answer) reported is run (λ x. record { request = refl; question = refl }) (e.moment, refl) heard row.request row.is_there (more row.request (still_told row.request row.is_not_decided))
 
   -- ---- hits
 
@@ -242,28 +278,40 @@ module _ (settings : Settings) (e : Entry) (origin : Tables) where
         none tables q = q
 
     -- what was told stands after the entry
-    still_own : (k n : ℕ) → ((given : Answer) → Tells e.input k given → (a : QueryRow) → nth before.queries k ≡ Some a → is_running a ≡ true → answer_under h.tables.queries k ≡ answer_under (after settings origin e).queries k) →
+    abbrev IsSameTold : ℕ → Type 0
+    IsSameTold k = (answer_under h.tables.queries k ≡ answer_under (after settings origin e).queries k) × (is_lost_in (after settings origin e).queries k ≡ is_lost_in h.tables.queries k)
+
+    still_own : (k n : ℕ) → ((given : Answer) → Tells e.input k given → (a : QueryRow) → nth before.queries k ≡ Some a → is_running a ≡ true → IsSameTold k) →
         told_query e.input ≡ Some k → own_answer before.queries h.tables.queries n k ≡ own_answer before.queries (after settings origin e).queries n k
     still_own k n same reported = go (nth before.queries k) refl
       where
         by_run : (a : QueryRow) → nth before.queries k ≡ Some a → (b : Bool) → is_running a ≡ b →
-            cond (b && (a.request == n)) (answer_under h.tables.queries k) [] ≡ cond (b && (a.request == n)) (answer_under (after settings origin e).queries k) []
+            cond ((b && (a.request == n)) && not (is_lost_in h.tables.queries k)) (answer_under h.tables.queries k) []
+            ≡ cond ((b && (a.request == n)) && not (is_lost_in (after settings origin e).queries k)) (answer_under (after settings origin e).queries k) []
         by_run a is false x = refl
-        by_run a is true x = let t : (given : Answer) × Tells e.input k given = given_of e.input k reported in ap (λ (xs : Answers). cond (a.request == n) xs []) (same t.0 t.1 a is x)
+        by_run a is true x =
+            let t : (given : Answer) × Tells e.input k given = given_of e.input k reported in
+            let s : IsSameTold k = same t.0 t.1 a is x in
+            ap₂ (λ (xs : Answers) (c : Bool). cond ((a.request == n) && not c) xs []) s.0 (sym s.1)
 
-        go : (o : Option QueryRow) → nth before.queries k ≡ o → cond (passes_option (λ a. is_running a && (a.request == n)) o) (answer_under h.tables.queries k) [] ≡ cond (passes_option (λ a. is_running a && (a.request == n)) o) (answer_under (after settings origin e).queries k) []
+        go : (o : Option QueryRow) → nth before.queries k ≡ o →
+            cond (passes_option (λ a. is_running a && (a.request == n)) o && not (is_lost_in h.tables.queries k)) (answer_under h.tables.queries k) []
+            ≡ cond (passes_option (λ a. is_running a && (a.request == n)) o && not (is_lost_in (after settings origin e).queries k)) (answer_under (after settings origin e).queries k) []
         go None x = refl
         go (Some a) x = by_run a x (is_running a) refl
 
-    told_stands : (k : ℕ) (given : Answer) → Tells e.input k given → (a : QueryRow) → nth before.queries k ≡ Some a → is_running a ≡ true → answer_under h.tables.queries k ≡ answer_under (after settings origin e).queries k
+    told_stands : (k : ℕ) (given : Answer) → Tells e.input k given → (a : QueryRow) → nth before.queries k ≡ Some a → is_running a ≡ true → IsSameTold k
     told_stands k given t a is run = go (told_is_recorded settings e.moment k given before a is run e.input t)
       where
-        go : IsRecorded h.tables.queries k a (recorded_answer a.question.kind given) e.moment → answer_under h.tables.queries k ≡ answer_under (after settings origin e).queries k
+        go : IsRecorded h.tables.queries k a (recorded_answer a.question.kind given) e.moment → IsSameTold k
         go i = later ((rest_stands settings origin e).queries k i.row i.is_there)
           where
-            later : (c : QueryRow) × (nth (after settings origin e).queries k ≡ Some c) × QueryStands i.row c → answer_under h.tables.queries k ≡ answer_under (after settings origin e).queries k
-            later (c, at, s) = known_under h.tables.queries k i.row _ i.is_there i.is_answer_recorded
-                ∙ ap (λ (q : Question). (q.db, recorded_answer a.question.kind given) ∷ []) (sym s.question) ∙ sym (known_under (after settings origin e).queries k c _ at (s.answer _ i.is_answer_recorded))
+            later : (c : QueryRow) × (nth (after settings origin e).queries k ≡ Some c) × QueryStands i.row c → IsSameTold k
+            later (c, at, s) = (
+              known_under h.tables.queries k i.row _ i.is_there i.is_answer_recorded
+                  ∙ ap (λ (q : Question). (q.db, recorded_answer a.question.kind given) ∷ []) (sym s.question) ∙ sym (known_under (after settings origin e).queries k c _ at (s.answer _ i.is_answer_recorded)),
+              lost_later h.tables.queries (after settings origin e).queries (rest_stands settings origin e).queries k i.row (recorded_answer a.question.kind given, e.moment) i.is_there i.is_answer_recorded,
+            )
 
     fresh_after : (n : ℕ) → fresh h.tables n ≡ fresh (after settings origin e) n
     fresh_after n = go (told_query e.input) refl
@@ -290,20 +338,46 @@ module _ (settings : Settings) (e : Entry) (origin : Tables) where
 
 -- ---- a legal history
 
+-- what comes before the input's own effect gives no answers
+abbrev SameAnswers : Tables → Tables → Type 0
+SameAnswers origin tables = (n : ℕ) → answers_at tables.requests n ≡ answers_at origin.requests n
+
+answers_before : (settings : Settings) (e : Entry) (origin : Tables) → SameAnswers origin (before_input settings e.moment e.input origin)
+unfolding with_due_replied with_timed_out
+answers_before settings e origin = before_gives settings e.moment origin e.input (SameAnswers origin) (SameAnswers origin) (SameAnswers origin) (record {
+  takes = λ l n. refl;
+  stays = λ n. refl;
+  times_out = λ tables q n. map_listed answers_of (timed_out_if_over settings e.moment) timed tables.requests n ∙ q n;
+  replies = λ tables q n. map_listed answers_of (replied_if_due settings e.moment) (due_answers settings e origin e.moment) tables.requests n ∙ q n;
+})
+  where
+    timed : (r : Request) → (timed_out_if_over settings e.moment r).answers ≡ r.answers
+    timed r = by_test (λ (x : Request). x.answers ≡ r.answers) (is_over_limit settings e.moment r) (timed_out e.moment r) r (λ x. refl) (λ x. refl)
+
+-- an answer is told to the queries as they were before the entry
+told_before : (settings : Settings) (e : Entry) (origin : Tables) (after_entry : List QueryRow) (n : ℕ) →
+    option_or_else (told_query e.input) [] (own_answer (before_input settings e.moment e.input origin).queries after_entry n) ≡ option_or_else (told_query e.input) [] (own_answer origin.queries after_entry n)
+told_before settings e origin after_entry n = go (told_query e.input) refl
+  where
+    go : (o : Option ℕ) → told_query e.input ≡ o → option_or_else o [] (own_answer (before_input settings e.moment e.input origin).queries after_entry n) ≡ option_or_else o [] (own_answer origin.queries after_entry n)
+    go None x = refl
+    go (Some k) x =
+        let t : (given : Answer) × Tells e.input k given = given_of e.input k x in
+        ap (λ (qs : List QueryRow). own_answer qs after_entry n k) (told_queries settings e.moment origin e.input k t.0 t.1)
+
 one_entry : (settings : Settings) (e : Entry) (tables : Tables) → AllAsked settings tables.requests tables.queries →
-    ContinuedHits settings e.moment tables (option_and_then (nth (after_input settings e.moment e.input (with_due_replied settings e.moment tables)).tables.requests) (after_input settings e.moment e.input (with_due_replied settings e.moment tables)).continued) e.hits →
+    ContinuedHits settings e.moment tables (option_and_then (nth (after_input settings e.moment e.input (before_input settings e.moment e.input tables)).tables.requests) (after_input settings e.moment e.input (before_input settings e.moment e.input tables)).continued) e.hits →
     (n : ℕ) → answers_at (after settings tables e).requests n
     ≡ answers_at tables.requests n ++ option_or_else (told_query e.input) [] (own_answer tables.queries (after settings tables e).queries n)
-    ++ if_continued (after_input settings e.moment e.input (with_due_replied settings e.moment tables)).continued n (flat_map (answer_under tables.queries) e.hits)
-unfolding with_due_replied
+    ++ if_continued (after_input settings e.moment e.input (before_input settings e.moment e.input tables)).continued n (flat_map (answer_under tables.queries) e.hits)
 one_entry settings e tables asked hits n =
-    let before : Tables = with_due_replied settings e.moment tables in
+    let before : Tables = before_input settings e.moment e.input tables in
     let h : AfterInput = after_input settings e.moment e.input before in
     let s : IsSound settings e.moment before e.input (λ x m. TablesStand before x) _ h =
     sound_input settings e.moment before e.input (λ x m. TablesStand before x) (input_stands settings e.moment before before e.input e.hits) e.input refl (all_same before) in
-    entry_answers settings e tables (tables_later tables before h.tables (due_stand settings e.moment tables) s.fact) (continued_known settings e.moment tables _ e.hits hits) (due_all_asked settings e.moment tables asked) n
-    ∙ ap (λ (xs : Answers). xs ++ option_or_else (told_query e.input) [] (own_answer tables.queries (after settings tables e).queries n) ++ if_continued h.continued n (flat_map (answer_under tables.queries) e.hits))
-    (map_listed answers_of (replied_if_due settings e.moment) (due_answers settings e tables e.moment) tables.requests n)
+    entry_answers settings e tables (tables_later tables before h.tables (before_stands settings e.moment e.input tables) s.fact) (continued_known settings e.moment tables _ e.hits hits) (before_all_asked settings e.moment e.input tables asked) n
+    ∙ ap₂ (λ (xs ys : Answers). xs ++ ys ++ if_continued h.continued n (flat_map (answer_under tables.queries) e.hits))
+    (answers_before settings e tables n) (told_before settings e tables (after settings tables e).queries n)
 
 all_answers : (settings : Settings) (h : List Entry) → IsLegal settings h → (n : ℕ) → answers_at (tables_of settings h).requests n ≡ answers_read settings h n
 all_answers settings [] legal zero = refl
@@ -311,7 +385,7 @@ all_answers settings [] legal (suc n) = refl
 all_answers settings (e ∷ g) legal n =
     one_entry settings e (tables_of settings g) (history_asked settings g) legal.1.hits n
     ∙ ap (λ (xs : Answers). xs ++ option_or_else (told_query e.input) [] (own_answer (tables_of settings g).queries (after settings (tables_of settings g) e).queries n)
-    ++ if_continued (after_input settings e.moment e.input (with_due_replied settings e.moment (tables_of settings g))).continued n (flat_map (answer_under (tables_of settings g).queries) e.hits)) (all_answers settings g legal.0 n)
+    ++ if_continued (after_input settings e.moment e.input (before_input settings e.moment e.input (tables_of settings g))).continued n (flat_map (answer_under (tables_of settings g).queries) e.hits)) (all_answers settings g legal.0 n)
 
 pub answers_are_read : AnswersAreRead
 answers_are_read settings h legal n r is = sym (ap (listed answers_of) is) ∙ all_answers settings h legal n

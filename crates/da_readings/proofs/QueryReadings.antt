@@ -2,7 +2,7 @@
 use Rattle.std.proofs.Common.{◌≡◌, ◌⊎◌, inl, inr, refl, sym, ◌∙◌, ap, ap₂, subst, Option, Some, None, List, [], ◌∷◌, ◌++◌, ℕ, zero, suc, true}
 use Rattle.std.proofs.lemmas.Option.{none-some, same_Some}
 use Rattle.da_readings.proofs.Came.{WasThere, AllCame, came_same, came_changed, came_longer}
-use Rattle.da_play.proofs.EntryParts.{InputParts, ContinuedParts, an_entry_gives}
+use Rattle.da_play.proofs.EntryParts.{BeforeParts, InputParts, ContinuedParts, an_entry_gives, before_gives, told_queries}
 use Rattle.da_invariants.proofs.KeysLaw.{IsRecorded, told_is_recorded}
 use Rattle.da_invariants.proofs.OpenQueries.{nowhere}
 use Rattle.da_tables.proofs.Rows.{passing, is_listed}
@@ -10,8 +10,8 @@ use Rattle.da_invariants.proofs.Standing.{what_is_done_stands}
 use Rattle.da_steps.proofs.Standing.{rest_stands}
 use Rattle.da_base.specs.Words.{nth, changed_nth, passes_option}
 use Rattle.da_fields.specs.declared.answer.Answer.{Answer}
-use Rattle.da_play.specs.History.{tables_of, after, after_input}
-use Rattle.da_tables.specs.Tables.{with_due_replied}
+use Rattle.da_play.specs.History.{tables_of, after, after_input, before_input}
+use Rattle.da_tables.specs.Tables.{with_due_replied, with_timed_out}
 use Rattle.da_tables.specs.Queries.{as_taken}
 use Rattle.da_tables.specs.Queries.{used_again}
 use Rattle.da_answers.specs.Hits.{hit_comparison}
@@ -33,13 +33,13 @@ use Rattle.da_steps.proofs.TakeSteps.{hands_out, taken_row}
 
 module _ (settings : Settings) (e : Entry) (origin : Tables) where
   abbrev before : Tables
-  before = with_due_replied settings e.moment origin
+  before = before_input settings e.moment e.input origin
 
   abbrev NewlyTaken : ℕ → QueryRow → ℕ → Type 0
-  NewlyTaken n a m = (e.input ≡ Take) × (n ≡ first_waiting before) × (m ≡ e.moment)
+  NewlyTaken n a m = (e.input ≡ Take) × (n ≡ first_waiting origin) × (m ≡ e.moment)
 
   abbrev NewlyAnswered : ℕ → QueryRow → Answer × ℕ → Type 0
-  NewlyAnswered n a p = (given : Answer) × Tells e.input n given × (is_running_in before n ≡ true) × (recorded_answer a.question.kind given ≡ p.0) × (p.1 ≡ e.moment)
+  NewlyAnswered n a p = (given : Answer) × Tells e.input n given × (is_running_in origin n ≡ true) × (recorded_answer a.question.kind given ≡ p.0) × (p.1 ≡ e.moment)
 
   -- a query keeps its question
   abbrev KeepsQuestion : QueryRow → QueryRow → Type 0
@@ -75,12 +75,16 @@ module _ (settings : Settings) (e : Entry) (origin : Tables) where
     answered = came_changed (λ (a : QueryRow). a.answer) KeepsQuestion NewlyAnswered origin.queries keeps keeps_on answered_continues f qs m q (λ a x is d. inl (sym (w a) ∙ d)) p.answered;
   }
 
-  both_taken : e.input ≡ Take → BothCame before.queries → BothCame (changed_nth (as_taken e.moment) before.queries (first_waiting before))
+  both_taken : e.input ≡ Take → BothCame origin.queries → BothCame (changed_nth (as_taken e.moment) origin.queries (first_waiting origin))
   both_taken l p = record {
-    taken = came_changed (λ (a : QueryRow). a.taken) KeepsQuestion NewlyTaken origin.queries keeps keeps_on taken_continues (as_taken e.moment) before.queries (first_waiting before) (λ a. refl)
+    taken = came_changed (λ (a : QueryRow). a.taken) KeepsQuestion NewlyTaken origin.queries keeps keeps_on taken_continues (as_taken e.moment) origin.queries (first_waiting origin) (λ a. refl)
         (λ a x is d. inr (l, refl, sym (same_Some e.moment x d))) p.taken;
-    answered = came_changed (λ (a : QueryRow). a.answer) KeepsQuestion NewlyAnswered origin.queries keeps keeps_on answered_continues (as_taken e.moment) before.queries (first_waiting before) (λ a. refl) (λ a x is d. inl d) p.answered;
+    answered = came_changed (λ (a : QueryRow). a.answer) KeepsQuestion NewlyAnswered origin.queries keeps keeps_on answered_continues (as_taken e.moment) origin.queries (first_waiting origin) (λ a. refl) (λ a x is d. inl d) p.answered;
   }
+
+  -- a query of which an answer is told runs after an entry's first part exactly where it ran before the entry
+  same_running : (n : ℕ) (given : Answer) → Tells e.input n given → is_running_in before n ≡ is_running_in origin n
+  same_running n given t = ap (λ (qs : List QueryRow). passes_option is_running (nth qs n)) (told_queries settings e.moment origin e.input n given t)
 
   both_answered : (query : ℕ) (given : Answer) (a : QueryRow) → Tells e.input query given → nth before.queries query ≡ Some a → is_running a ≡ true → BothCame before.queries →
       BothCame (changed_nth (answered_by settings e.moment (nth before.requests a.request) (recorded_answer a.question.kind given)) before.queries query)
@@ -90,7 +94,7 @@ module _ (settings : Settings) (e : Entry) (origin : Tables) where
         (λ x y at d. inr (
           given,
           g,
-          ap (passes_option is_running) is ∙ run,
+          sym (same_running query given g) ∙ ap (passes_option is_running) is ∙ run,
           ap (λ (z : QueryRow). recorded_answer z.question.kind given) (same_Some x a (sym at ∙ is)) ∙ ap (λ (z : Answer × ℕ). z.0) (same_Some _ y d),
           sym (ap (λ (z : Answer × ℕ). z.1) (same_Some _ y d)),
         )) p.answered;
@@ -120,9 +124,10 @@ module _ (settings : Settings) (e : Entry) (origin : Tables) where
     cancels = λ n x p. p;
     texts = λ conn id random text m r is w p. p;
     makes = λ conn id random body m p. p;
-    takes = λ l p. both_taken l p;
-    answers = λ query given a g is run u p. both_answered query given a g is run p;
-    lates = λ query given a g is run u p. both_answered query given a g is run p;
+    loses = λ query given a g is run lost u p. both_answered query given a g is run p;
+    loses_late = λ query given a g is run lost u p. both_answered query given a g is run p;
+    answers = λ query given a g is run heard u p. both_answered query given a g is run p;
+    lates = λ query given a g is run heard u p. both_answered query given a g is run p;
   }
 
   continued_came : ContinuedParts settings e.moment before e.input e.hits came_now came_after
@@ -136,17 +141,16 @@ module _ (settings : Settings) (e : Entry) (origin : Tables) where
     kept = λ tables m query given a l run is k q. q;
   }
 
-  start_came : BothCame before.queries
-  unfolding with_due_replied
+  start_came : BothCame origin.queries
   start_came = record { taken = came_same (λ (a : QueryRow). a.taken) KeepsQuestion NewlyTaken origin.queries keeps keeps_on taken_continues; answered = came_same (λ (a : QueryRow). a.answer) KeepsQuestion NewlyAnswered origin.queries keeps keeps_on answered_continues }
 
-  entry_came : BothCame (after settings origin e).queries
-  entry_came = an_entry_gives settings origin e came_now came_after input_came continued_came start_came
+  before_came : BeforeParts settings e.moment origin e.input (λ tables. BothCame tables.queries) (λ tables. BothCame tables.queries) (λ tables. BothCame tables.queries)
+  unfolding with_due_replied with_timed_out
+  before_came = record { takes = λ l. both_taken l start_came; stays = start_came; times_out = λ tables p. p; replies = λ tables p. p }
 
-  -- part one of an entry leaves the queries as they are
-  same_running : (n : ℕ) → is_running_in before n ≡ is_running_in origin n
-  unfolding with_due_replied
-  same_running n = refl
+  entry_came : BothCame (after settings origin e).queries
+  entry_came = an_entry_gives settings origin e came_now came_after input_came continued_came
+      (before_gives settings e.moment origin e.input (λ tables. BothCame tables.queries) (λ tables. BothCame tables.queries) (λ tables. BothCame tables.queries) before_came)
 
 -- ---- a history
 
@@ -197,7 +201,7 @@ module _ (settings : Settings) where
         at_moment = sym d;
         given = given;
         tells = w;
-        is_running = sym (same_running settings e (tables_of settings g) n) ∙ r;
+        is_running = r;
         is_answer_recorded = k;
       }
 
@@ -205,12 +209,12 @@ module _ (settings : Settings) where
 
   module _ (e : Entry) (g : List Entry) where
     abbrev now : Tables
-    now = with_due_replied settings e.moment (tables_of settings g)
+    now = before_input settings e.moment e.input (tables_of settings g)
 
     -- what is told of a running query is recorded
     told_row : (n : ℕ) (given : Answer) → Tells e.input n given → is_running_in (tables_of settings g) n ≡ true →
         (b : QueryRow) × (nth (tables_of settings (e ∷ g)).queries n ≡ Some b) × (b.answer ≡ Some (recorded_answer b.question.kind given, e.moment))
-    told_row n given t run = go (passing is_running (nth now.queries n) (same_running settings e (tables_of settings g) n ∙ run))
+    told_row n given t run = go (passing is_running (nth now.queries n) (same_running settings e (tables_of settings g) n given t ∙ run))
       where
         go : (a : QueryRow) × (nth now.queries n ≡ Some a) × (is_running a ≡ true) → (b : QueryRow) × (nth (tables_of settings (e ∷ g)).queries n ≡ Some b) × (b.answer ≡ Some (recorded_answer b.question.kind given, e.moment))
         go (a, at, w) = of_row (told_is_recorded settings e.moment n given now a at w e.input t)

@@ -3,16 +3,17 @@ use Rattle.std.proofs.Common.{◌≡◌, ◌⊎◌, inl, inr, refl, sym, ◌∙�
 use Rattle.std.proofs.lemmas.Option.{none-some, same_Some}
 use Rattle.da_readings.proofs.Came.{WasThere, AllCame, came_same, came_changed, came_mapped, came_longer}
 use Rattle.da_tables.proofs.Cases.{by_test, and_first, and_second, not_true}
-use Rattle.da_play.proofs.EntryParts.{InputParts, ContinuedParts, an_entry_gives}
+use Rattle.da_tables.proofs.Rows.{of_mapped}
+use Rattle.da_play.proofs.EntryParts.{BeforeParts, InputParts, ContinuedParts, an_entry_gives, before_gives}
 use Rattle.da_laws.proofs.Noted.{history_noted}
 use Rattle.da_invariants.proofs.OpenQueries.{nowhere, none_there}
 use Rattle.da_readings.proofs.QueryReadings.{later_among}
-use Rattle.da_steps.proofs.Standing.{input_stands, continued_stands, due_stand, undecided_is}
+use Rattle.da_steps.proofs.Standing.{input_stands, continued_stands, before_stands, undecided_is}
 use Rattle.da_base.specs.Words.{nth, changed_nth}
 use Rattle.da_fields.specs.declared.answer.Answer.{Answer}
-use Rattle.da_play.specs.History.{tables_of, after}
-use Rattle.da_tables.specs.Tables.{with_due_replied}
-use Rattle.da_request.specs.Requests.{with_decision, replied_if_due}
+use Rattle.da_play.specs.History.{tables_of, after, before_input}
+use Rattle.da_tables.specs.Tables.{with_due_replied, with_timed_out}
+use Rattle.da_request.specs.Requests.{with_decision, replied_if_due, has_limit, is_over_limit, timed_out, timed_out_if_over}
 use Rattle.da_request.specs.Requests.{new_request, with_text}
 use Rattle.da_request.specs.Requests.{with_answer, with_late_answer}
 use Rattle.da_readings.specs.RowReadings.{WasDecided, WasReplied, DecidedIsFirst, RepliedIsFirst}
@@ -33,7 +34,7 @@ none_if (Some k) h = absurd (h k refl)
 
 module _ (settings : Settings) (e : Entry) (origin : Tables) where
   abbrev before : Tables
-  before = with_due_replied settings e.moment origin
+  before = before_input settings e.moment e.input origin
 
   -- decided by this entry, which found it undecided
   abbrev NewlyDecided : ℕ → Request → ℕ → Type 0
@@ -80,7 +81,7 @@ module _ (settings : Settings) (e : Entry) (origin : Tables) where
   }
 
   late_touches : (db : ℕ) (answer : Answer) (r : Request) → Touches r (with_late_answer db answer r)
-  late_touches db answer r = by_test (Touches r) (is_some r.decided) r (with_answer db answer r) (λ x. record { decided = refl; replied = refl }) (λ x. record { decided = refl; replied = refl })
+  late_touches db answer r = by_test (Touches r) (is_some r.decided && not r.is_timed_out) r (with_answer db answer r) (λ x. record { decided = refl; replied = refl }) (λ x. record { decided = refl; replied = refl })
 
   cancelled_of_touches : (conn : ℕ) (r : Request) → Touches r (as_cancelled_of conn r)
   cancelled_of_touches conn r = by_test (Touches r) (is_of conn r) (cancelled r) r (λ x. record { decided = refl; replied = refl }) (λ x. record { decided = refl; replied = refl })
@@ -116,9 +117,10 @@ module _ (settings : Settings) (e : Entry) (origin : Tables) where
     cancels = λ n x p. record { tables = stand.cancels n x p.tables; came = both_changed cancelled (λ r. record { decided = refl; replied = refl }) before.requests n p.came };
     texts = λ conn id random text m r is w p. record { tables = stand.texts conn id random text m r is w p.tables; came = both_changed (with_text text) (λ r. record { decided = refl; replied = refl }) before.requests _ p.came };
     makes = λ conn id random body m p. record { tables = stand.makes conn id random body m p.tables; came = both_longer before.requests (new_request e.moment conn id random body) refl refl p.came };
-    takes = λ l p. record { tables = stand.takes l p.tables; came = p.came };
-    answers = λ query given a g is run u p. record { tables = stand.answers query given a g is run u p.tables; came = both_changed (with_answer a.question.db _) (λ r. record { decided = refl; replied = refl }) before.requests a.request p.came };
-    lates = λ query given a g is run u p. record { tables = stand.lates query given a g is run u p.tables; came = both_changed (with_late_answer a.question.db _) (late_touches a.question.db _) before.requests a.request p.came };
+    loses = λ query given a g is run lost u p. record { tables = stand.loses query given a g is run lost u p.tables; came = p.came };
+    loses_late = λ query given a g is run lost u p. record { tables = stand.loses_late query given a g is run lost u p.tables; came = p.came };
+    answers = λ query given a g is run heard u p. record { tables = stand.answers query given a g is run heard u p.tables; came = both_changed (with_answer a.question.db _) (λ r. record { decided = refl; replied = refl }) before.requests a.request p.came };
+    lates = λ query given a g is run heard u p. record { tables = stand.lates query given a g is run heard u p.tables; came = both_changed (with_late_answer a.question.db _) (late_touches a.question.db _) before.requests a.request p.came };
   }
 
   -- the request that is decided was neither decided nor replied nor cancelled before
@@ -171,27 +173,84 @@ module _ (settings : Settings) (e : Entry) (origin : Tables) where
     kept = λ tables m query given a l run is k q. q;
   }
 
-  due_came : BothCame before.requests
-  unfolding with_due_replied is_due
-  due_came = record {
-    decided = came_mapped (λ (r : Request). r.decided) AnyRow NewlyDecided origin.requests any any_on decided_continues (replied_if_due settings e.moment) origin.requests (λ r. tt)
-        (λ n r x is d. inl (by_test (λ (y : Request). y.decided ≡ Some x → r.decided ≡ Some x) (is_due settings e.moment r) (record r { replied = Some e.moment }) r (λ y z. z) (λ y z. z) d)) (came_same (λ (r : Request). r.decided) AnyRow NewlyDecided origin.requests any any_on decided_continues);
-    replied = came_mapped (λ (r : Request). r.replied) AnyRow NewlyReplied origin.requests any any_on replied_continues (replied_if_due settings e.moment) origin.requests (λ r. tt) reported (came_same (λ (r : Request). r.replied) AnyRow NewlyReplied origin.requests any any_on replied_continues);
+  -- a row whose replies and cancelling stand as they were before the entry
+  abbrev AsFound : ℕ → Request → Type 0
+  AsFound n r = (s : Request) → nth origin.requests n ≡ Some s → (s.replied ≡ r.replied) × (s.is_cancelled ≡ r.is_cancelled)
+
+  -- the requests before the entry's replies: what is decided came, and nothing is replied or cancelled yet
+  record NotReplied (rs : List Request) : Type 0 where
+    pub came : BothCame rs
+    pub found : (n : ℕ) (r : Request) → nth rs n ≡ Some r → AsFound n r
+
+  origin_came : BothCame origin.requests
+  origin_came = record {
+    decided = came_same (λ (r : Request). r.decided) AnyRow NewlyDecided origin.requests any any_on decided_continues;
+    replied = came_same (λ (r : Request). r.replied) AnyRow NewlyReplied origin.requests any any_on replied_continues;
+  }
+
+  origin_found : (n : ℕ) (r : Request) → nth origin.requests n ≡ Some r → AsFound n r
+  origin_found n r is s at = (ap (λ (y : Request). y.replied) (same_Some s r (sym at ∙ is)), ap (λ (y : Request). y.is_cancelled) (same_Some s r (sym at ∙ is)))
+
+  -- a time-out decides what was neither decided nor cancelled
+  over_undecided : (r : Request) → is_over_limit settings e.moment r ≡ true → (r.decided ≡ None) × (r.is_cancelled ≡ false)
+  unfolding is_over_limit
+  over_undecided r over = go (and_second _ (is_undecided r) (and_first (has_limit r) _ over))
+    where
+      go : is_undecided r ≡ true → (r.decided ≡ None) × (r.is_cancelled ≡ false)
+      go u = (none_there r.decided (undecided_is r u).0, not_true r.is_cancelled (and_first (not r.is_cancelled) _ (and_first (is_pending r) _ u)))
+
+  timed_out_came : (tables : Tables) → tables.requests ≡ origin.requests → NotReplied (with_timed_out settings e.moment tables).requests
+  unfolding with_timed_out
+  timed_out_came tables same = subst (λ (rs : List Request). NotReplied (map (timed_out_if_over settings e.moment) rs)) (sym same) (record {
+    came = record {
+      decided = came_mapped (λ (r : Request). r.decided) AnyRow NewlyDecided origin.requests any any_on decided_continues (timed_out_if_over settings e.moment) origin.requests (λ r. tt) decided_now origin_came.decided;
+      replied = came_mapped (λ (r : Request). r.replied) AnyRow NewlyReplied origin.requests any any_on replied_continues (timed_out_if_over settings e.moment) origin.requests (λ r. tt) (λ n r x is d. inl (sym (same_row r).0 ∙ d)) origin_came.replied;
+    };
+    found = λ n r is. mapped n r (of_mapped (timed_out_if_over settings e.moment) origin.requests n r is);
+  })
+    where
+      same_row : (r : Request) → ((timed_out_if_over settings e.moment r).replied ≡ r.replied) × ((timed_out_if_over settings e.moment r).is_cancelled ≡ r.is_cancelled)
+      same_row r = by_test (λ (y : Request). (y.replied ≡ r.replied) × (y.is_cancelled ≡ r.is_cancelled)) (is_over_limit settings e.moment r) (timed_out e.moment r) r (λ y. (refl, refl)) (λ y. (refl, refl))
+
+      mapped : (n : ℕ) (r : Request) → (b : Request) × (nth origin.requests n ≡ Some b) × (r ≡ timed_out_if_over settings e.moment b) → AsFound n r
+      mapped n r (b, there, d) s at = (
+        (origin_found n b there s at).0 ∙ sym (same_row b).0 ∙ ap (λ (y : Request). y.replied) (sym d),
+        (origin_found n b there s at).1 ∙ sym (same_row b).1 ∙ ap (λ (y : Request). y.is_cancelled) (sym d),
+      )
+
+      decided_now : (n : ℕ) (r : Request) (x : ℕ) → nth origin.requests n ≡ Some r → (timed_out_if_over settings e.moment r).decided ≡ Some x → (r.decided ≡ Some x) ⊎ NewlyDecided n (timed_out_if_over settings e.moment r) x
+      decided_now n r x is = by_test (λ (y : Request). y.decided ≡ Some x → (r.decided ≡ Some x) ⊎ NewlyDecided n (timed_out_if_over settings e.moment r) x) (is_over_limit settings e.moment r) (timed_out e.moment r) r
+          (λ over d. inr (sym (same_Some e.moment x d), λ s at. subst (λ (y : Request). (y.decided ≡ None) × (y.is_cancelled ≡ false)) (same_Some r s (sym is ∙ at)) (over_undecided r over)))
+          (λ y d. inl d)
+
+  replies_came : (tables : Tables) → NotReplied tables.requests → BothCame (with_due_replied settings e.moment tables).requests
+  unfolding with_due_replied
+  replies_came tables p = record {
+    decided = came_mapped (λ (r : Request). r.decided) AnyRow NewlyDecided origin.requests any any_on decided_continues (replied_if_due settings e.moment) tables.requests (λ r. tt)
+        (λ n r x is d. inl (by_test (λ (y : Request). y.decided ≡ Some x → r.decided ≡ Some x) (is_due settings e.moment r) (record r { replied = Some e.moment }) r (λ y z. z) (λ y z. z) d)) p.came.decided;
+    replied = came_mapped (λ (r : Request). r.replied) AnyRow NewlyReplied origin.requests any any_on replied_continues (replied_if_due settings e.moment) tables.requests (λ r. tt) reported p.came.replied;
   }
     where
-      reported : (n : ℕ) (r : Request) (x : ℕ) → nth origin.requests n ≡ Some r → (replied_if_due settings e.moment r).replied ≡ Some x → (r.replied ≡ Some x) ⊎ NewlyReplied n r x
-      reported n r x is = by_test (λ (y : Request). y.replied ≡ Some x → (r.replied ≡ Some x) ⊎ NewlyReplied n r x) (is_due settings e.moment r) (record r { replied = Some e.moment }) r
-          (λ due d. inr (sym (same_Some e.moment x d), λ s at. held due s (same_Some s r (sym at ∙ is))))
+      reported : (n : ℕ) (r : Request) (x : ℕ) → nth tables.requests n ≡ Some r → (replied_if_due settings e.moment r).replied ≡ Some x → (r.replied ≡ Some x) ⊎ NewlyReplied n (replied_if_due settings e.moment r) x
+      reported n r x is = by_test (λ (y : Request). y.replied ≡ Some x → (r.replied ≡ Some x) ⊎ NewlyReplied n (replied_if_due settings e.moment r) x) (is_due settings e.moment r) (record r { replied = Some e.moment }) r
+          (λ due d. inr (sym (same_Some e.moment x d), λ s at. ((p.found n r is s at).0 ∙ (held due).0, (p.found n r is s at).1 ∙ (held due).1)))
           (λ y d. inl d)
         where
-          held : is_due settings e.moment r ≡ true → (s : Request) → s ≡ r → (s.replied ≡ None) × (s.is_cancelled ≡ false)
-          held due s same = (
-            ap (λ (y : Request). y.replied) same ∙ none_there r.replied (not_true (is_some r.replied) (and_second (is_some r.decided && not r.is_cancelled) _ (and_first (is_held r) _ due))),
-            ap (λ (y : Request). y.is_cancelled) same ∙ not_true r.is_cancelled (and_second (is_some r.decided) _ (and_first (is_some r.decided && not r.is_cancelled) _ (and_first (is_held r) _ due))),
+          held : is_due settings e.moment r ≡ true → (r.replied ≡ None) × (r.is_cancelled ≡ false)
+          unfolding is_due
+          held due = (
+            none_there r.replied (not_true (is_some r.replied) (and_second (is_some r.decided && not r.is_cancelled) _ (and_first (is_held r) _ due))),
+            not_true r.is_cancelled (and_second (is_some r.decided) _ (and_first (is_some r.decided && not r.is_cancelled) _ (and_first (is_held r) _ due))),
           )
 
+  before_came : BeforeParts settings e.moment origin e.input (λ tables. tables.requests ≡ origin.requests) (λ tables. NotReplied tables.requests) (λ tables. BothCame tables.requests)
+  before_came = record { takes = λ l. refl; stays = refl; times_out = timed_out_came; replies = replies_came }
+
   entry_came : BothCame (after settings origin e).requests
-  entry_came = an_entry_gives settings origin e came_now came_after input_came continued_came (record { tables = due_stand settings e.moment origin; came = due_came })
+  entry_came = an_entry_gives settings origin e came_now came_after input_came continued_came (record {
+    tables = before_stands settings e.moment e.input origin;
+    came = before_gives settings e.moment origin e.input (λ tables. tables.requests ≡ origin.requests) (λ tables. NotReplied tables.requests) (λ tables. BothCame tables.requests) before_came;
+  })
 
 -- ---- a history
 
@@ -230,7 +289,7 @@ module _ (settings : Settings) where
         not_before = λ s at. not_decided g n s at (fresh s at).0 (fresh s at).1;
         request = r;
         is_there = is;
-        is_decided = (history_noted settings (e ∷ g) n r is).by_stage (ap is_some d);
+        is_decided = (history_noted settings (e ∷ g) n r is).has_decision (ap is_some d);
       }
 
   replied_by : (h : List Entry) (n m : ℕ) (r : Request) → nth (tables_of settings h).requests n ≡ Some r → r.replied ≡ Some m → WasReplied settings h n m

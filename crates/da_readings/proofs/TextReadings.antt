@@ -1,7 +1,7 @@
 -- The texts of a request are those of the CONT lines that continued it.
 use Rattle.std.proofs.Common.{◌≡◌, ◌⊎◌, inl, inr, refl, sym, ◌∙◌, ap, ap₂, Option, Some, None, List, [], ◌∷◌, ◌++◌, ℕ, zero, suc, Bool, true, false, cond, map, option_map, option_and_then, append-nil, is_some, ◌==◌, eq-eqb, ne_eqb, true≢false}
 use Rattle.da_tables.proofs.Cases.{by_test, and_second}
-use Rattle.da_play.proofs.EntryParts.{InputParts, ContinuedParts, ReadsClient, IsMade, MadeLogin, MadeLookup, an_entry_gives}
+use Rattle.da_play.proofs.EntryParts.{BeforeParts, InputParts, ContinuedParts, ReadsClient, IsMade, MadeLogin, MadeLookup, an_entry_gives, before_gives, connections_before}
 use Rattle.da_tables.proofs.Rows.{same_or_not, nth-changed, nth-unchanged, listed, listed_at, changed_listed, map_listed, new_listed}
 use Rattle.da_base.specs.Words.{Bytes, nth, changed_nth}
 use Rattle.da_fields.specs.declared.answer.Answer.{Answer}
@@ -9,9 +9,9 @@ use Rattle.da_msgs.specs.ClientMessages.{client_message}
 use Rattle.da_msgs.specs.declared.client.ClientMsg.{ClientMsg}
 use Rattle.da_msgs.specs.declared.client.ClientMsg.TheVariants.{Cont}
 use Rattle.da_readings.specs.ListReadings.{if_continued, message_in, continued_text, texts_read, texts_in, TextsAreRead}
-use Rattle.da_play.specs.History.{tables_of, after, after_input}
-use Rattle.da_tables.specs.Tables.{with_due_replied}
-use Rattle.da_request.specs.Requests.{with_decision, replied_if_due}
+use Rattle.da_play.specs.History.{tables_of, after, after_input, before_input}
+use Rattle.da_tables.specs.Tables.{with_due_replied, with_timed_out}
+use Rattle.da_request.specs.Requests.{with_decision, replied_if_due, is_over_limit, timed_out, timed_out_if_over}
 use Rattle.da_request.specs.Requests.{new_request, with_text, body_with_text, is_awaiting}
 use Rattle.da_request.specs.Requests.{with_answer, with_late_answer}
 use Rattle.da_play.specs.History.{Tells}
@@ -47,7 +47,7 @@ no_texts b = cond b [] []
 
 module _ (settings : Settings) (e : Entry) (origin : Tables) where
   abbrev before : Tables
-  before = with_due_replied settings e.moment origin
+  before = before_input settings e.moment e.input origin
 
   -- what the input says, if it moves request n
   abbrev said : Option ℕ → ℕ → List Bytes
@@ -131,13 +131,16 @@ module _ (settings : Settings) (e : Entry) (origin : Tables) where
       go (LooksUp (Some grant)) x = absurd (lookup (user_chain settings.userdb grant.lookup r.answers) grant.lookup x)
 
   late_body : (db : ℕ) (answer : Answer) (r : Request) → (with_late_answer db answer r).body ≡ r.body
-  late_body db answer r = by_test (λ (x : Request). x.body ≡ r.body) (is_some r.decided) r (with_answer db answer r) (λ x. refl) (λ x. refl)
+  late_body db answer r = by_test (λ (x : Request). x.body ≡ r.body) (is_some r.decided && not r.is_timed_out) r (with_answer db answer r) (λ x. refl) (λ x. refl)
 
   cancelled_body : (conn : ℕ) (r : Request) → (as_cancelled_of conn r).body ≡ r.body
   cancelled_body conn r = by_test (λ (x : Request). x.body ≡ r.body) (is_of conn r) (cancelled r) r (λ x. refl) (λ x. refl)
 
   due_body : (moment : ℕ) (r : Request) → (replied_if_due settings moment r).body ≡ r.body
   due_body moment r = by_test (λ (x : Request). x.body ≡ r.body) (is_due settings moment r) (record r { replied = Some moment }) r (λ x. refl) (λ x. refl)
+
+  timed_out_body : (moment : ℕ) (r : Request) → (timed_out_if_over settings moment r).body ≡ r.body
+  timed_out_body moment r = by_test (λ (x : Request). x.body ≡ r.body) (is_over_limit settings moment r) (timed_out moment r) r (λ x. refl) (λ x. refl)
 
   end_texts : (conn n : ℕ) → texts_at (with_end conn before).requests n ≡ texts_at before.requests n ++ said None n
   unfolding with_end
@@ -151,9 +154,10 @@ module _ (settings : Settings) (e : Entry) (origin : Tables) where
     cancels = λ n x p. still (changed_nth cancelled before.requests n) (changed_listed texts_of cancelled (λ r. refl) before.requests n);
     texts = λ conn id random text m r is w p. added _ text r is (awaiting_login r w) (ap continued_text (of_client conn random (Cont id text) m));
     makes = λ conn id random body m p. silent _ _ (of_made conn id random body m).0 (λ n. new_listed texts_of before.requests (new_request e.moment conn id random body) n (of_made conn id random body m).1);
-    takes = λ l p. p;
-    answers = λ query given a g is run u p. silent _ _ (of_told query given g) (changed_listed texts_of (with_answer a.question.db _) (λ r. refl) before.requests a.request);
-    lates = λ query given a g is run u p. still _ (changed_listed texts_of (with_late_answer a.question.db _) (λ r. ap texts_in (late_body a.question.db _ r)) before.requests a.request);
+    loses = λ query given a g is run lost u p. silent _ _ (of_told query given g) (λ n. refl);
+    loses_late = λ query given a g is run lost u p. p;
+    answers = λ query given a g is run heard u p. silent _ _ (of_told query given g) (changed_listed texts_of (with_answer a.question.db _) (λ r. refl) before.requests a.request);
+    lates = λ query given a g is run heard u p. still _ (changed_listed texts_of (with_late_answer a.question.db _) (λ r. ap texts_in (late_body a.question.db _ r)) before.requests a.request);
   }
 
   continued_texts : ContinuedParts settings e.moment before e.input e.hits texts_now texts_after
@@ -167,19 +171,34 @@ module _ (settings : Settings) (e : Entry) (origin : Tables) where
     kept = λ tables m query given a l run is k q. q;
   }
 
-  entry_texts : (n : ℕ) → texts_at (after settings origin e).requests n ≡ texts_at origin.requests n ++ said (after_input settings e.moment e.input before).continued n
-  unfolding with_due_replied
+  abbrev SameTexts : Tables → Type 0
+  SameTexts tables = (n : ℕ) → texts_at tables.requests n ≡ texts_at origin.requests n
+
+  before_texts : BeforeParts settings e.moment origin e.input SameTexts SameTexts SameTexts
+  unfolding with_due_replied with_timed_out
+  before_texts = record {
+    takes = λ l n. refl;
+    stays = λ n. refl;
+    times_out = λ tables q n. map_listed texts_of (timed_out_if_over settings e.moment) (λ r. ap texts_in (timed_out_body e.moment r)) tables.requests n ∙ q n;
+    replies = λ tables q n. map_listed texts_of (replied_if_due settings e.moment) (λ r. ap texts_in (due_body e.moment r)) tables.requests n ∙ q n;
+  }
+
+  -- what the input says is what it says on the connections before the entry
+  same_said : (m : Option ℕ) (n : ℕ) → said m n ≡ if_continued m n (continued_text (message_in origin.connections e.input))
+  same_said m n = ap (λ (cs : List Connection). if_continued m n (continued_text (message_in cs e.input))) (connections_before settings e.moment origin e.input)
+
+  entry_texts : (n : ℕ) → texts_at (after settings origin e).requests n
+      ≡ texts_at origin.requests n ++ if_continued (after_input settings e.moment e.input before).continued n (continued_text (message_in origin.connections e.input))
   entry_texts n =
       an_entry_gives settings origin e texts_now texts_after input_texts continued_texts (still before.requests (λ m. refl)) n
-      ∙ ap (λ (xs : List Bytes). xs ++ said (after_input settings e.moment e.input before).continued n) (map_listed texts_of (replied_if_due settings e.moment) (λ r. ap texts_in (due_body e.moment r)) origin.requests n)
+      ∙ ap₂ (λ (xs ys : List Bytes). xs ++ ys) (before_gives settings e.moment origin e.input SameTexts SameTexts SameTexts before_texts n) (same_said (after_input settings e.moment e.input before).continued n)
 
 -- ---- a history
 
 all_texts : (settings : Settings) (h : List Entry) (n : ℕ) → texts_at (tables_of settings h).requests n ≡ texts_read settings h n
-unfolding with_due_replied
 all_texts settings [] zero = refl
 all_texts settings [] (suc n) = refl
-all_texts settings (e ∷ g) n = entry_texts settings e (tables_of settings g) n ∙ ap (λ (xs : List Bytes). xs ++ said settings e (tables_of settings g) (after_input settings e.moment e.input (with_due_replied settings e.moment (tables_of settings g))).continued n) (all_texts settings g n)
+all_texts settings (e ∷ g) n = entry_texts settings e (tables_of settings g) n ∙ ap (λ (xs : List Bytes). xs ++ if_continued (after_input settings e.moment e.input (before_input settings e.moment e.input (tables_of settings g))).continued n (continued_text (message_in (tables_of settings g).connections e.input))) (all_texts settings g n)
 
 pub texts_are_read : TextsAreRead
 texts_are_read settings h n r is = sym (ap (listed texts_of) is) ∙ all_texts settings h n

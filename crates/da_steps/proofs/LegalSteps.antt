@@ -18,8 +18,7 @@ use Rattle.da_tables.specs.declared.queries.QueryRow.{QueryRow}
 use Rattle.da_tables.specs.declared.tables.Tables.{Tables}
 use Rattle.da_play.specs.Legal.{ContinuedHits, EntryHits}
 use Rattle.da_answers.specs.Hits.{hits_from, database_count}
-use Rattle.da_play.specs.History.{after_input}
-use Rattle.da_tables.specs.Tables.{with_due_replied}
+use Rattle.da_play.specs.History.{after_input, before_input}
 use Rattle.da_tables.specs.Tables.{AfterInput}
 use Rattle.da_request.specs.declared.request.Request.{Request}
 use Rattle.da_steps.proofs.HitsMade.{hits_are_hits}
@@ -74,7 +73,7 @@ made_for settings moment tables (Some r) = hits_are_hits settings moment tables 
 pub made_hits : (settings : Settings) (h : List Entry) (moment : ℕ) (input : Input) → EntryHits settings h moment input (hits settings h moment input)
 unfolding hits
 made_hits settings h moment input =
-    let there : AfterInput = after_input settings moment input (with_due_replied settings moment (tables_of settings h)) in
+    let there : AfterInput = after_input settings moment input (before_input settings moment input (tables_of settings h)) in
     made_for settings moment (tables_of settings h) (option_and_then (nth there.tables.requests) there.continued)
 
 next_is_next : (settings : Settings) (h : List Entry) (m : ℕ) (input : Input) → refusal settings h (entry_moment h m) input ≡ None → IsNext settings h (next_entry settings h m input)

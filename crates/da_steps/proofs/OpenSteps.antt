@@ -1,7 +1,7 @@
 -- After an entry a connection is open exactly where the entry opened it, or it was open and the entry doesn't end it.
 use Rattle.std.proofs.Common.{◌≡◌, ◌⊎◌, inl, inr, refl, sym, ◌∙◌, ap, Option, Some, None, List, [], ◌∷◌, ◌++◌, ℕ, suc, Bool, true, false, length, not, ◌&&◌, ◌||◌, ◌==◌, option_map, eq-eqb, ne_eqb}
 use Rattle.da_tables.proofs.Cases.{by_test}
-use Rattle.da_play.proofs.EntryParts.{ContinuedParts, continued_gives, IsSound, sound_input}
+use Rattle.da_play.proofs.EntryParts.{ContinuedParts, connections_before, continued_gives, IsSound, sound_input}
 use Rattle.da_tables.proofs.Rows.{same_or_not, nth-changed, nth-unchanged, nth-last, nth-other}
 use Rattle.da_base.specs.Words.{Bytes, nth, changed_nth, passes_option}
 use Rattle.da_fields.specs.declared.answer.Answer.{Answer}
@@ -15,16 +15,14 @@ use Rattle.da_msgs.specs.declared.master.MasterMsg.{MasterMsg}
 use Rattle.da_msgs.specs.declared.master.MasterMsg.TheVariants.{Version as MasterVersion, Request as LookupRequest, Other as MasterOther}
 use Rattle.da_tables.specs.Connections.{client_may, master_may, request_number}
 use Rattle.da_play.specs.Effects.{effects, opened_by}
-use Rattle.da_play.specs.History.{tables_of, after, after_input}
-use Rattle.da_tables.specs.Tables.{with_due_replied}
-use Rattle.da_tables.specs.Queries.{as_taken}
+use Rattle.da_play.specs.History.{tables_of, after, after_input, before_input}
 use Rattle.da_request.specs.Requests.{with_text, is_awaiting}
 use Rattle.da_lines.specs.Lines.{continues, cancels, after_client_message, after_master_message, client_line, master_line, line_on, line_by, is_cancellable}
 use Rattle.da_tables.specs.Connections.{with_version, with_pid}
-use Rattle.da_answers.specs.RecordedAnswers.{after_answer, after_answer_for, recorded_answer}
-use Rattle.da_tables.specs.Queries.{is_running, first_waiting}
+use Rattle.da_answers.specs.RecordedAnswers.{after_answer, after_answer_for, is_lost, recorded_answer}
+use Rattle.da_tables.specs.Queries.{is_running}
 use Rattle.da_request.specs.Requests.{is_undecided}
-use Rattle.da_tables.specs.Tables.{AfterInput, continuing, continuing_none, closing, with_end, with_connection, with_request, with_query, closed, is_client, is_open_in}
+use Rattle.da_tables.specs.Tables.{AfterInput, continuing, continuing_none, closing, with_end, with_connection, with_request, closed, is_client, is_open_in}
 use Rattle.da_request.specs.Requests.{cancelled}
 use Rattle.da_play.specs.declared.input.Entry.{Entry}
 use Rattle.da_play.specs.declared.input.Input.{Input}
@@ -132,7 +130,9 @@ module _ (settings : Settings) (moment : ℕ) (before : Tables) where
       (λ e. leaves before None (λ conn. refl))
 
   leaves_answers : (query : ℕ) (a : QueryRow) (answer : Answer) → Leaves (after_answer_for settings moment query a answer before)
-  leaves_answers query a answer = by_test Leaves (passes_option is_undecided (nth before.requests a.request)) _ _ (λ e conn. sym (and_true (is_open_in before conn))) (λ e conn. sym (and_true (is_open_in before conn)))
+  leaves_answers query a answer = by_test Leaves (is_lost before.queries query a answer) _ _
+      (λ lost. by_test Leaves (passes_option is_undecided (nth before.requests a.request)) _ _ (λ e conn. sym (and_true (is_open_in before conn))) (λ e conn. sym (and_true (is_open_in before conn))))
+      (λ heard. by_test Leaves (passes_option is_undecided (nth before.requests a.request)) _ _ (λ e conn. sym (and_true (is_open_in before conn))) (λ e conn. sym (and_true (is_open_in before conn))))
 
   leaves_records : (query : ℕ) (answer : Answer) (o : Option QueryRow) → Leaves (after_answer settings moment query answer o before)
   leaves_records query answer None = leaves before None (λ conn. refl)
@@ -149,7 +149,7 @@ module _ (settings : Settings) (moment : ℕ) (before : Tables) where
   open_input (Line c text random) conn = leaves_line c text random (nth before.connections c) conn
   open_input (Broken c) conn = leaves_closing c conn
   open_input (Gone c) conn = leaves_closing c conn
-  open_input Take conn = leaves (with_query (as_taken moment) (first_waiting before) before) None (λ conn. refl) conn
+  open_input Take conn = leaves before None (λ conn. refl) conn
   open_input (Answered query answer) conn = leaves_records query answer (nth before.queries query) conn
   open_input (Late query) conn = leaves_records query (Internal WasLate) (nth before.queries query) conn
   open_input Tick conn = leaves before None (λ conn. refl) conn
@@ -158,7 +158,7 @@ module _ (settings : Settings) (moment : ℕ) (before : Tables) where
 
 module _ (settings : Settings) (e : Entry) (g : List Entry) where
   abbrev now : Tables
-  now = with_due_replied settings e.moment (tables_of settings g)
+  now = before_input settings e.moment e.input (tables_of settings g)
 
   abbrev h : AfterInput
   h = after_input settings e.moment e.input now
@@ -189,8 +189,7 @@ module _ (settings : Settings) (e : Entry) (g : List Entry) where
       continued_gives settings e.moment now e.input e.hits same_now same_after continued_same_row h refl s.continued
 
   opened_same : (input : Input) → opened_by input now ≡ opened_by input (tables_of settings g)
-  unfolding with_due_replied
-  opened_same (Opened kind random) = refl
+  opened_same (Opened kind random) = ap (λ (cs : List Connection). Some (suc (length cs))) (connections_before settings e.moment (tables_of settings g) e.input)
   opened_same (Line conn text random) = refl
   opened_same (Broken conn) = refl
   opened_same (Gone conn) = refl
@@ -200,6 +199,7 @@ module _ (settings : Settings) (e : Entry) (g : List Entry) where
   opened_same Tick = refl
 
   pub open_step : (conn : ℕ) → is_open_in (tables_of settings (e ∷ g)) conn ≡ (names conn (effects settings (tables_of settings g) e).opened || (is_open_in (tables_of settings g) conn && not (ends settings g e conn)))
-  unfolding effects with_due_replied
+  unfolding effects
   open_step conn = ap (λ cs. open_at cs conn) connections_after ∙ open_input settings e.moment now e.input conn
       ∙ ap (λ (o : Option ℕ). names conn o || (is_open_in now conn && not (ends_by e.input h.closed conn))) (opened_same e.input)
+      ∙ ap (λ (cs : List Connection). names conn (opened_by e.input (tables_of settings g)) || (open_at cs conn && not (ends_by e.input h.closed conn))) (connections_before settings e.moment (tables_of settings g) e.input)

@@ -3,13 +3,13 @@ use Rattle.std.proofs.Common.{◌≡◌, ◌⊎◌, inl, inr, refl, sym, ◌∙�
 use Rattle.std.proofs.lemmas.Option.{none-some, same_Some}
 use Rattle.da_tables.proofs.Cases.{by_test, and_first, and_second, not_true}
 use Rattle.da_play.proofs.EntryInduction.{IsUndecidedAt}
-use Rattle.da_play.proofs.EntryParts.{InputParts, ContinuedParts, IsSameConnection, IsSound, sound_input, continued_gives, an_entry_gives, recorded}
+use Rattle.da_play.proofs.EntryParts.{BeforeParts, InputParts, ContinuedParts, IsSameConnection, IsSound, sound_input, before_gives, continued_gives, an_entry_gives, recorded}
 use Rattle.da_tables.proofs.Rows.{same_or_not, nth-changed, nth-unchanged, nth-map, nth-before, first_passes}
 use Rattle.da_base.specs.Words.{Bytes, nth, changed_nth, passes_option}
 use Rattle.da_fields.specs.declared.answer.Answer.{Answer}
 use Rattle.da_keys.specs.Keys.{key_first}
-use Rattle.da_play.specs.History.{after, after_input}
-use Rattle.da_tables.specs.Tables.{with_due_replied}
+use Rattle.da_play.specs.History.{after, after_input, before_input}
+use Rattle.da_tables.specs.Tables.{with_due_replied, with_timed_out}
 use Rattle.da_request.specs.Requests.{with_decision, replied_if_due}
 use Rattle.da_tables.specs.Queries.{as_taken}
 use Rattle.da_tables.specs.Queries.{used_again}
@@ -18,7 +18,7 @@ use Rattle.da_request.specs.Requests.{with_text, body_with_text}
 use Rattle.da_request.specs.Requests.{with_answer, with_late_answer}
 use Rattle.da_answers.specs.RecordedAnswers.{answered_by, recorded_answer, key_of}
 use Rattle.da_tables.specs.Queries.{is_running, is_waiting, first_waiting}
-use Rattle.da_request.specs.Requests.{is_granted_for, is_undecided, is_due, is_held, is_pending}
+use Rattle.da_request.specs.Requests.{has_limit, is_authentication, is_granted_for, is_over_limit, is_undecided, is_due, is_held, is_pending, timed_out, timed_out_if_over}
 use Rattle.da_tables.specs.Tables.{AfterInput, with_end, with_query, closed}
 use Rattle.da_request.specs.Requests.{cancelled, as_cancelled_of, is_of}
 use Rattle.da_play.specs.declared.input.Entry.{Entry}
@@ -78,31 +78,33 @@ closed_stands c = record { kind = refl; cookie = refl; is_ended = λ e. absurd (
 -- ---- requests
 
 same_request : (r : Request) → RequestStands r r
-same_request r = record { conn = refl; id = refl; random = refl; start = refl; grant = λ n. refl; cancelled = λ e. e; decided = λ m e. e; replied = λ m e. e; body = λ e. refl; answers = λ e. refl }
+same_request r = record { conn = refl; id = refl; random = refl; start = refl; is_client = refl; grant = λ n. refl; cancelled = λ e. e; decided = λ m e. e; replied = λ m e. e; body = λ e. refl; timed_out = λ e. refl; answers = λ e f. refl }
 
 pub is_there : (o : Option ℕ) → is_some o ≡ true → (m : ℕ) × (o ≡ Some m)
 is_there None e = absurd (true≢false (sym e))
 is_there (Some m) e = (m, refl)
 
-request_later : (a b c : Request) → RequestStands a b → RequestStands b c → RequestStands a c
+pub request_later : (a b c : Request) → RequestStands a b → RequestStands b c → RequestStands a c
 request_later a b c f g = record {
   conn = g.conn ∙ f.conn;
   id = g.id ∙ f.id;
   random = g.random ∙ f.random;
   start = g.start ∙ f.start;
+  is_client = g.is_client ∙ f.is_client;
   grant = λ n. g.grant n ∙ f.grant n;
   cancelled = λ e. g.cancelled (f.cancelled e);
   decided = λ m e. g.decided m (f.decided m e);
   replied = λ m e. g.replied m (f.replied m e);
   body = λ e. g.body (still e) ∙ f.body e;
-  answers = λ e. g.answers (still e) ∙ f.answers e;
+  timed_out = λ e. g.timed_out (still e) ∙ f.timed_out e;
+  answers = λ e t. g.answers (still e) (f.timed_out e ∙ t) ∙ f.answers e t;
 }
   where
     still : is_some a.decided ≡ true → is_some b.decided ≡ true
     still e = let d : (m : ℕ) × (a.decided ≡ Some m) = is_there a.decided e in ap is_some (f.decided d.0 d.1)
 
 cancelled_stands : (r : Request) → RequestStands r (cancelled r)
-cancelled_stands r = record { conn = refl; id = refl; random = refl; start = refl; grant = λ n. refl; cancelled = λ e. refl; decided = λ m e. e; replied = λ m e. e; body = λ e. refl; answers = λ e. refl }
+cancelled_stands r = record { conn = refl; id = refl; random = refl; start = refl; is_client = refl; grant = λ n. refl; cancelled = λ e. refl; decided = λ m e. e; replied = λ m e. e; body = λ e. refl; timed_out = λ e. refl; answers = λ e f. refl }
 
 cancelled_of_stands : (conn : ℕ) (r : Request) → RequestStands r (as_cancelled_of conn r)
 cancelled_of_stands conn r = by_test (RequestStands r) (is_of conn r) (cancelled r) r (λ e. cancelled_stands r) (λ e. same_request r)
@@ -115,33 +117,54 @@ not_there (Some x) m e d = true≢false e
 pub undecided_is : (r : Request) → is_undecided r ≡ true → (is_some r.decided ≡ false) × (is_some r.replied ≡ false)
 undecided_is r u = (not_true (is_some r.decided) (and_second (is_pending r) _ u), not_true (is_some r.replied) (and_second (not r.is_cancelled) _ (and_first (is_pending r) _ u)))
 
-reads_more : (r s : Request) → is_some r.decided ≡ false → s.conn ≡ r.conn → s.id ≡ r.id → s.random ≡ r.random → s.start ≡ r.start → ((n : ℕ) → is_granted_for n s.body ≡ is_granted_for n r.body) →
+reads_more : (r s : Request) → is_some r.decided ≡ false → s.conn ≡ r.conn → s.id ≡ r.id → s.random ≡ r.random → s.start ≡ r.start → is_authentication s.body ≡ is_authentication r.body → ((n : ℕ) → is_granted_for n s.body ≡ is_granted_for n r.body) →
     s.is_cancelled ≡ r.is_cancelled → s.replied ≡ r.replied → RequestStands r s
-reads_more r s u c i x t g k p = record {
+reads_more r s u c i x t b g k p = record {
   conn = c;
   id = i;
   random = x;
   start = t;
+  is_client = b;
   grant = g;
   cancelled = λ e. k ∙ e;
   decided = λ m e. absurd (not_there r.decided m u e);
   replied = λ m e. p ∙ e;
   body = λ e. absurd (true≢false (sym e ∙ u));
-  answers = λ e. absurd (true≢false (sym e ∙ u));
+  timed_out = λ e. absurd (true≢false (sym e ∙ u));
+  answers = λ e t. absurd (true≢false (sym e ∙ u));
 }
 
 text_stands : (text : Bytes) (r : Request) → is_undecided r ≡ true → RequestStands r (with_text text r)
-text_stands text r u = reads_more r (with_text text r) (undecided_is r u).0 refl refl refl refl (λ n. same_grant n r.body) refl refl
+text_stands text r u = reads_more r (with_text text r) (undecided_is r u).0 refl refl refl refl (same_kind r.body) (λ n. same_grant n r.body) refl refl
   where
     same_grant : (n : ℕ) (b : Body) → is_granted_for n (body_with_text text b) ≡ is_granted_for n b
     same_grant n (Authenticates mech params resp texts) = refl
     same_grant n (LooksUp grant) = refl
 
-answer_stands : (db : ℕ) (answer : Answer) (r : Request) → is_some r.decided ≡ false → RequestStands r (with_answer db answer r)
-answer_stands db answer r u = reads_more r (with_answer db answer r) u refl refl refl refl (λ n. refl) refl refl
+    same_kind : (b : Body) → is_authentication (body_with_text text b) ≡ is_authentication b
+    same_kind (Authenticates mech params resp texts) = refl
+    same_kind (LooksUp grant) = refl
 
+answer_stands : (db : ℕ) (answer : Answer) (r : Request) → is_some r.decided ≡ false → RequestStands r (with_answer db answer r)
+answer_stands db answer r u = reads_more r (with_answer db answer r) u refl refl refl refl refl (λ n. refl) refl refl
+
+-- a late answer is one more to a request that isn't decided, or was timed out
 late_stands : (db : ℕ) (answer : Answer) (r : Request) → RequestStands r (with_late_answer db answer r)
-late_stands db answer r = by_test (RequestStands r) (is_some r.decided) r (with_answer db answer r) (λ e. same_request r) (λ e. answer_stands db answer r e)
+late_stands db answer r = by_test (RequestStands r) (is_some r.decided && not r.is_timed_out) r (with_answer db answer r) (λ e. same_request r)
+    (λ e. record {
+      conn = refl;
+      id = refl;
+      random = refl;
+      start = refl;
+      is_client = refl;
+      grant = λ n. refl;
+      cancelled = λ c. c;
+      decided = λ m d. d;
+      replied = λ m d. d;
+      body = λ d. refl;
+      timed_out = λ d. refl;
+      answers = λ d t. absurd (true≢false (sym (ap (λ (x : Bool). x && not r.is_timed_out) d ∙ ap not t) ∙ e));
+    })
 
 reply_stands : (settings : Settings) (moment : ℕ) (r : Request) → RequestStands r (replied_if_due settings moment r)
 unfolding is_due
@@ -151,19 +174,28 @@ reply_stands settings moment r = by_test (RequestStands r) (is_due settings mome
       id = refl;
       random = refl;
       start = refl;
+      is_client = refl;
       grant = λ n. refl;
       cancelled = λ c. c;
       decided = λ m d. d;
       replied = λ m d. absurd (not_there r.replied m (not_true (is_some r.replied) (and_second _ _ (and_first (is_held r) _ e))) d);
       body = λ d. refl;
-      answers = λ d. refl;
+      timed_out = λ d. refl;
+      answers = λ d t. refl;
     })
+    (λ e. same_request r)
+
+-- a request that is timed out was undecided
+time_out_stands : (settings : Settings) (moment : ℕ) (r : Request) → RequestStands r (timed_out_if_over settings moment r)
+unfolding is_over_limit
+time_out_stands settings moment r = by_test (RequestStands r) (is_over_limit settings moment r) (timed_out moment r) r
+    (λ e. reads_more r (timed_out moment r) (undecided_is r (and_second (is_authentication r.body) (is_undecided r) (and_first (has_limit r) _ e))).0 refl refl refl refl refl (λ n. refl) refl refl)
     (λ e. same_request r)
 
 decision_stands : (settings : Settings) (moment : ℕ) (r : Request) → is_undecided r ≡ true → RequestStands r (with_decision settings moment r)
 decision_stands settings moment r u =
     request_later r (record r { decided = Some moment }) (with_decision settings moment r)
-    (reads_more r (record r { decided = Some moment }) (undecided_is r u).0 refl refl refl refl (λ n. refl) refl refl)
+    (reads_more r (record r { decided = Some moment }) (undecided_is r u).0 refl refl refl refl refl (λ n. refl) refl refl)
     (reply_stands settings moment (record r { decided = Some moment }))
 
 -- ---- queries
@@ -255,12 +287,12 @@ module _ (settings : Settings) (moment : ℕ) (origin before : Tables) (entered 
     texts = λ conn id random text m r is w p. with_requests origin before p _ (changed_requests (with_text text) before.requests _
         (λ s e. text_stands text s (subst (λ (x : Request). is_undecided x ≡ true) (same_Some r s (sym is ∙ e)) (and_first (is_undecided r) _ w))));
     makes = λ conn id random body m p. with_requests origin before p _ (longer_rows RequestStands same_request request_later before.requests _);
-    takes = λ l p. with_queries origin before p _ (changed_queries (as_taken moment) before.queries (first_waiting before)
-        (λ a e. taken_stands moment a (not_true (is_some a.taken) (and_first (not (is_some a.taken)) _ (and_first (not (is_some a.taken) && not (is_some a.answer)) _ (first_passes (is_waiting before) before.queries a e))))));
-    answers = λ query given a g is run u p. with_requests origin (recorded settings moment before query a given) (answered query given a is run p) _
+    loses = λ query given a g is run lost u p. answered query given a is run p;
+    loses_late = λ query given a g is run lost u p. answered query given a is run p;
+    answers = λ query given a g is run heard u p. with_requests origin (recorded settings moment before query a given) (answered query given a is run p) _
         (changed_requests (with_answer a.question.db (recorded_answer a.question.kind given)) before.requests a.request
         (λ r e. answer_stands a.question.db (recorded_answer a.question.kind given) r (undecided_is r (of_undecided before.requests a.request r u e)).0));
-    lates = λ query given a g is run u p. with_requests origin (recorded settings moment before query a given) (answered query given a is run p) _
+    lates = λ query given a g is run heard u p. with_requests origin (recorded settings moment before query a given) (answered query given a is run p) _
         (changed_requests (with_late_answer a.question.db (recorded_answer a.question.kind given)) before.requests a.request
         (λ r e. late_stands a.question.db (recorded_answer a.question.kind given) r));
   }
@@ -290,18 +322,39 @@ unfolding with_due_replied
 due_stand settings moment tables = with_requests tables tables (all_same tables) (map (replied_if_due settings moment) tables.requests)
     (mapped_rows RequestStands same_request request_later (replied_if_due settings moment) (reply_stands settings moment) tables.requests)
 
+timed_stand : (settings : Settings) (moment : ℕ) (origin tables : Tables) → TablesStand origin tables → TablesStand origin (with_timed_out settings moment tables)
+unfolding with_timed_out
+timed_stand settings moment origin tables p = with_requests origin tables p (map (timed_out_if_over settings moment) tables.requests)
+    (mapped_rows RequestStands same_request request_later (timed_out_if_over settings moment) (time_out_stands settings moment) tables.requests)
+
+-- the first query that waits is handed out
+taking_stands : (moment : ℕ) (tables : Tables) → TablesStand tables (with_query (as_taken moment) (first_waiting tables) tables)
+taking_stands moment tables = with_queries tables tables (all_same tables) _
+    (changed_queries (as_taken moment) tables.queries (first_waiting tables)
+    (λ a e. taken_stands moment a (not_true (is_some a.taken) (and_first (not (is_some a.taken)) _ (and_first (not (is_some a.taken) && not (is_some a.answer)) _ (first_passes (is_waiting tables) tables.queries a e))))))
+
+-- what comes before an input's own effect lets stand what is done
+pub before_stands : (settings : Settings) (moment : ℕ) (input : Input) (tables : Tables) → TablesStand tables (before_input settings moment input tables)
+before_stands settings moment input tables =
+    before_gives settings moment tables input (TablesStand tables) (TablesStand tables) (TablesStand tables) (record {
+      takes = λ is. taking_stands moment tables;
+      stays = all_same tables;
+      times_out = timed_stand settings moment tables;
+      replies = λ now p. tables_later tables now (with_due_replied settings moment now) p (due_stand settings moment now);
+    })
+
 -- an entry lets stand what is done
 pub entry_stands : (settings : Settings) (tables : Tables) (e : Entry) → TablesStand tables (after settings tables e)
 entry_stands settings tables e =
-    let before : Tables = with_due_replied settings e.moment tables in
+    let before : Tables = before_input settings e.moment e.input tables in
     an_entry_gives settings tables e (Q settings e.moment tables before e.input e.hits) (P settings e.moment tables before e.input e.hits)
-    (input_stands settings e.moment tables before e.input e.hits) (continued_stands settings e.moment tables before e.input e.hits) (due_stand settings e.moment tables)
+    (input_stands settings e.moment tables before e.input e.hits) (continued_stands settings e.moment tables before e.input e.hits) (before_stands settings e.moment e.input tables)
 
 -- what follows an input's own effect lets stand what that left
-pub rest_stands : (settings : Settings) (tables : Tables) (e : Entry) → TablesStand (after_input settings e.moment e.input (with_due_replied settings e.moment tables)).tables (after settings tables e)
+pub rest_stands : (settings : Settings) (tables : Tables) (e : Entry) → TablesStand (after_input settings e.moment e.input (before_input settings e.moment e.input tables)).tables (after settings tables e)
 unfolding after
 rest_stands settings tables e =
-    let before : Tables = with_due_replied settings e.moment tables in
+    let before : Tables = before_input settings e.moment e.input tables in
     let h : AfterInput = after_input settings e.moment e.input before in
     let s : IsSound settings e.moment before e.input (λ x m. TablesStand before x) _ h =
     sound_input settings e.moment before e.input (λ x m. TablesStand before x) (input_stands settings e.moment before before e.input e.hits) e.input refl (all_same before) in
