@@ -34,7 +34,7 @@ is_userdb_key key = begins_with (codes "userdb_") key && nat_lt 7 (length key)
 abbrev pub is_hidden : Bytes → Bool
 is_hidden key =
     is_userdb_key key || bytes_eq key (codes "allow_nets") || bytes_eq key (codes "nodelay") || bytes_eq key (codes "password")
-    || bytes_eq key (codes "user") || bytes_eq key (codes "reason") || bytes_eq key (codes "resp")
+    || bytes_eq key (codes "user") || bytes_eq key (codes "reason") || bytes_eq key (codes "resp") || bytes_eq key (codes "expired")
 
 -- the fields that a client is told
 abbrev pub visible : Pairs → Pairs

@@ -1,8 +1,8 @@
 -- The chain of password databases: what a login asks next, or its verdict, from the answers so far.
-use Rattle.std.specs.Prelude.{ℕ, suc, Bool, true, false, ◌&&◌, ◌||◌, not, List, [], ◌∷◌, filter, Option, Some, None, if◌then◌else◌, ◌==◌}
+use Rattle.std.specs.Prelude.{ℕ, suc, Bool, true, false, ◌&&◌, ◌||◌, not, List, [], ◌∷◌, filter, Option, Some, None, if◌then◌else◌, ◌==◌, codes, is_some}
 use Rattle.std.specs.List.{list_all}
 use Rattle.da_base.specs.Words.{Bytes}
-use Rattle.da_fields.specs.FieldList.{merge}
+use Rattle.da_fields.specs.FieldList.{field, merge}
 use Rattle.da_fields.specs.Answers.{Answers, answer_from, answer_fields, is_success, rule_for}
 use Rattle.da_names.specs.Filters.{filter_matches}
 use Rattle.da_names.specs.Templates.{expand_fields, is_template_field}
@@ -20,7 +20,7 @@ use Rattle.da_passdb.specs.declared.chain.Chain.{Chain}
 use Rattle.da_passdb.specs.declared.chain.Chain.TheVariants.{Ask, Done}
 use Rattle.da_passdb.specs.declared.chain.Verdict.{Verdict}
 use Rattle.da_passdb.specs.declared.chain.VerdictKind.{VerdictKind}
-use Rattle.da_passdb.specs.declared.chain.VerdictKind.TheVariants.{Ok as IsOkay, Fail as IsFail, Temp as IsTemp, Disabled as IsDisabled}
+use Rattle.da_passdb.specs.declared.chain.VerdictKind.TheVariants.{Ok as IsOkay, Fail as IsFail, Temp as IsTemp, Disabled as IsDisabled, Expired as IsExpired}
 use Rattle.da_passdb.specs.declared.database.Passdb.{Passdb}
 use Rattle.da_passdb.specs.declared.database.Skip.{Skip}
 use Rattle.da_passdb.specs.declared.database.Skip.TheVariants.{Never, Authenticated, Unauthenticated}
@@ -59,9 +59,17 @@ pub data Move : Type 0 where
   GoOn : Progress → Move
   Stop : Walk → Move
 
--- an end with success is Ok; one without is Temp where a database gave no answer
+-- the fields so far have the key `expired`, whatever its value
+abbrev pub is_expired : Progress → Bool
+is_expired p = is_some (field (codes "expired") p.fields)
+
+-- an end with success is Expired where the fields have the key `expired`, and else Ok; one without is Temp where a
+-- database gave no answer
+abbrev pub end_kind : Progress → VerdictKind
+end_kind p = if p.success then (if is_expired p then IsExpired else IsOkay) else if p.internal then IsTemp else IsFail
+
 abbrev pub ended : Progress → Walk
-ended p = Ended (if p.success then IsOkay else if p.internal then IsTemp else IsFail) p
+ended p = Ended (end_kind p) p
 
 abbrev pub is_skipped : Skip → Bool → Bool
 is_skipped Never success = false
