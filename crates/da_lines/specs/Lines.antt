@@ -42,7 +42,7 @@ cancels settings number tables =
 -- ---- lines of clients
 
 abbrev pub after_client_message : Settings → ℕ → ℕ → Bytes → ClientMsg → Tables → AfterInput
-after_client_message settings moment conn random (Version major minor) tables = continuing_none (with_connection with_version conn tables)
+after_client_message settings moment conn random (Version major minor) tables = continuing_none (with_connection (with_version minor) conn tables)
 after_client_message settings moment conn random (Pid pid) tables = continuing_none (with_connection (with_pid pid) conn tables)
 after_client_message settings moment conn random (Auth id mech params resp) tables =
     continuing_new (new_request moment conn id random (Authenticates mech params resp [])) tables
@@ -59,7 +59,7 @@ client_line settings moment conn random c (Some message) tables =
 -- ---- lines of masters
 
 abbrev pub after_master_message : Settings → ℕ → ℕ → Bytes → MasterMsg → Tables → AfterInput
-after_master_message settings moment conn random (MasterVersion major minor) tables = continuing_none (with_connection with_version conn tables)
+after_master_message settings moment conn random (MasterVersion major minor) tables = continuing_none (with_connection (with_version minor) conn tables)
 after_master_message settings moment conn random (MasterRequest id pid client cookie) tables =
     continuing_new (new_request moment conn id random (LooksUp (granted settings moment tables pid client cookie))) tables
 after_master_message settings moment conn random MasterOther tables = continuing_none tables

@@ -39,7 +39,7 @@ before_input settings moment input tables = with_due_replied settings moment (be
 
 unfoldable pub after_input : Settings → ℕ → Input → Tables → AfterInput
 after_input settings moment (Opened kind random) tables =
-    continuing_none (record tables { connections = tables.connections ++ record { kind = kind; cookie = hex random; has_version = false; pid = None; is_open = true } ∷ [] })
+    continuing_none (record tables { connections = tables.connections ++ record { kind = kind; cookie = hex random; minor = None; pid = None; is_open = true } ∷ [] })
 after_input settings moment (Line conn text random) tables = line_on settings moment conn text random (nth tables.connections conn) tables
 after_input settings moment (Broken conn) tables = closing conn tables
 after_input settings moment (Gone conn) tables = continuing_none (with_end conn tables)

@@ -1,5 +1,5 @@
 -- The course of an attempt to log in: what a client has said, what is asked, and the decision.
-use Rattle.std.specs.Prelude.{ℕ, Bool, true, false, ◌||◌, List, [], ◌∷◌, ◌++◌, Option, Some, None, option_map, option_and_then, if◌then◌else◌, bytes_eq, codes}
+use Rattle.std.specs.Prelude.{ℕ, Bool, true, false, ◌&&◌, ◌||◌, List, [], ◌∷◌, ◌++◌, Option, Some, None, option_map, option_and_then, if◌then◌else◌, bytes_eq, codes}
 use Rattle.da_base.specs.Words.{Bytes, hex, is_empty, from_base64, option_or_else}
 use Rattle.da_fields.specs.FieldList.{Pairs, field}
 use Rattle.da_fields.specs.Answers.{Answers}
@@ -13,6 +13,8 @@ use Rattle.da_scram.specs.Reading.{scram_says}
 use Rattle.da_passdb.specs.LoginChain.{login_chain}
 use Rattle.da_fields.specs.declared.said.Said.{Said}
 use Rattle.da_fields.specs.declared.said.Said.TheVariants.{Challenge, Need, Proof as Proves, Bad}
+use Rattle.da_msgs.specs.declared.code.Code.{Code}
+use Rattle.da_msgs.specs.declared.code.Code.TheVariants.{Temp as CodeTemp, Disabled as CodeDisabled, Expired as CodeExpired, Timeout as CodeTimeout, Protocol as CodeProtocol, Authz as CodeAuthz, Credentials as CodeCredentials}
 use Rattle.da_msgs.specs.declared.kinds.Mech.{Mech}
 use Rattle.da_msgs.specs.declared.kinds.Mech.TheVariants.{Plain, Login as LoginMech, CramMd5, ScramSha256}
 use Rattle.da_names.specs.declared.variables.Vars.{Vars}
@@ -20,10 +22,12 @@ use Rattle.da_passdb.specs.declared.chain.Chain.{Chain}
 use Rattle.da_passdb.specs.declared.chain.Chain.TheVariants.{Ask, Done}
 use Rattle.da_passdb.specs.declared.chain.Verdict.{Verdict}
 use Rattle.da_passdb.specs.declared.chain.VerdictKind.{VerdictKind}
-use Rattle.da_passdb.specs.declared.chain.VerdictKind.TheVariants.{Ok as IsOkay, Fail as IsFail, Temp as IsTemp, Disabled as IsDisabled}
+use Rattle.da_passdb.specs.declared.chain.VerdictKind.TheVariants.{Ok as IsOkay, Fail as IsFail, Temp as IsTemp, Disabled as IsDisabled, Expired as IsExpired}
 use Rattle.da_passdb.specs.declared.login.Login.{Login}
 use Rattle.da_passdb.specs.declared.login.Proof.{Proof}
 use Rattle.da_passdb.specs.declared.login.Proof.TheVariants.{Plain as Password, Cram, Scram}
+use Rattle.da_request.specs.declared.failures.FailedBy.{FailedBy}
+use Rattle.da_request.specs.declared.failures.FailedBy.TheVariants.{Limit as ByLimit, Protocol as ByProtocol, Verdict as ByVerdict}
 use Rattle.da_request.specs.declared.openings.Opening.{Opening}
 use Rattle.da_request.specs.declared.openings.Opening.TheVariants.{Immediate, LogsIn}
 use Rattle.da_request.specs.declared.stages.Decision.TheVariants.{Failure, Success}
@@ -102,10 +106,23 @@ unfoldable pub names : Settings → Bytes → Bytes → Option (Bytes × Option 
 names settings name authzid =
     names_split (normal settings.username_chars settings.username_lower) name authzid (split_at settings.master_separator name)
 
+-- ---- the codes of failures
+
+-- the code of a failure, by what it failed by and whether it has `authz`: the first line that applies
+abbrev pub failure_code : FailedBy → Bool → Code
+failure_code (ByVerdict IsTemp) authz = CodeTemp
+failure_code (ByVerdict IsDisabled) authz = CodeDisabled
+failure_code (ByVerdict IsExpired) authz = CodeExpired
+failure_code ByLimit authz = CodeTimeout
+failure_code ByProtocol authz = CodeProtocol
+failure_code _ true = CodeAuthz
+failure_code _ false = CodeCredentials
+
 -- ---- before any database is asked
 
+-- what was said is no login
 abbrev pub fails_for : Bytes → Stage
-fails_for reason = Decided (Failure None false false false (Some reason))
+fails_for reason = Decided (Failure None false false false (failure_code ByProtocol false) (Some reason))
 
 abbrev pub login_proof : Mech → Option Bytes → Proof
 login_proof ScramSha256 password = Scram
@@ -154,30 +171,51 @@ abbrev pub is_disabled : VerdictKind → Bool
 is_disabled IsDisabled = true
 is_disabled _ = false
 
--- a failure told for the chain's user, with this reason, or else with that of the chain's fields
-abbrev pub failure : Verdict → Option Bytes → Stage
-failure v None = Decided (Failure (Some v.user) v.authz (is_temp v.kind) (is_disabled v.kind) (field (codes "reason") v.fields))
-failure v (Some reason) = Decided (Failure (Some v.user) v.authz (is_temp v.kind) (is_disabled v.kind) (Some reason))
+-- a failure told for the chain's user
+abbrev pub failure_with : Verdict → FailedBy → Option Bytes → Stage
+failure_with v failed_by reason =
+    Decided (Failure (Some v.user) v.authz (is_temp v.kind) (is_disabled v.kind) (failure_code failed_by v.authz) reason)
 
-abbrev pub plain_failure : Verdict → Option Bytes → Stage
-plain_failure v reason = failure (record v { kind = IsFail }) reason
+-- a failure by this verdict, with the reason of the chain's fields
+abbrev pub failure : Verdict → Stage
+failure v = failure_with v (ByVerdict v.kind) (field (codes "reason") v.fields)
 
--- the stage once the mechanism has read the messages with credentials
+abbrev pub failed : Verdict → Verdict
+failed v = record v { kind = IsFail }
+
+-- decided with this verdict: a success where it is Ok, with the mechanism's last message, and else a failure
+abbrev pub decided_by : VerdictKind → Verdict → Option Bytes → Stage
+decided_by IsOkay v last = Decided (Success v.user v.fields last)
+decided_by _ v last = failure v
+
+-- the stage once the mechanism has read the messages with credentials: a right proof leaves the chain's verdict, and a
+-- wrong one is a plain failure
 abbrev pub after_proof : Verdict → Said → Stage
 after_proof v (Challenge text) = Awaits text
-after_proof v (Proves true last) = Decided (Success v.user v.fields last)
-after_proof v (Proves false last) = plain_failure v None
-after_proof v _ = plain_failure v (Some (codes "Invalid response"))
+after_proof v (Proves true last) = decided_by v.kind v last
+after_proof v (Proves false last) = failure (failed v)
+after_proof v _ = failure_with (failed v) ByProtocol (Some (codes "Invalid response"))
 
 abbrev pub with_credentials : Mech → Settings → Attempt → Verdict → Option StoredPassword → Stage
-with_credentials mech settings attempt v None = plain_failure v None
+with_credentials mech settings attempt v None = failure (failed v)
 with_credentials mech settings attempt v (Some stored) = after_proof v (mechanism_says mech settings attempt attempt.messages (Some stored))
 
+-- the client of this mechanism proves that it knows the password, and doesn't tell it
+abbrev pub has_proof : Mech → Bool
+has_proof CramMd5 = true
+has_proof ScramSha256 = true
+has_proof _ = false
+
+-- a chain that ended with success: Ok or Expired
+abbrev pub has_success : VerdictKind → Bool
+has_success IsOkay = true
+has_success IsExpired = true
+has_success _ = false
+
+-- the verdict decides, but for a success whose proof is still to be read
 abbrev pub after_verdict : VerdictKind → Mech → Settings → Attempt → Verdict → Stage
-after_verdict IsOkay Plain settings attempt v = Decided (Success v.user v.fields None)
-after_verdict IsOkay LoginMech settings attempt v = Decided (Success v.user v.fields None)
-after_verdict IsOkay mech settings attempt v = with_credentials mech settings attempt v v.credentials
-after_verdict _ mech settings attempt v = failure v None
+after_verdict kind mech settings attempt v =
+    if has_success kind && has_proof mech then with_credentials mech settings attempt v v.credentials else decided_by kind v None
 
 abbrev pub after_chain : Mech → Settings → Attempt → Chain → Stage
 after_chain mech settings attempt (Ask db kind user checked) = Asks (record { db = db; kind = kind; user = user; checked = checked })

@@ -18,7 +18,8 @@ use Rattle.da_passdb.specs.Outcomes.{password_comparison, proof_password}
 use Rattle.da_fields.specs.declared.answer.Answer.{Answer}
 use Rattle.da_fields.specs.declared.answer.Answer.TheVariants.{Found}
 use Rattle.da_fields.specs.declared.answer.QueryKind.{QueryKind}
-use Rattle.da_request.specs.Attempts.{Attempt, attempt_stage, login_in, opening, said, vars_for}
+use Rattle.da_request.specs.Attempts.{Attempt, attempt_stage, failure_code, login_in, opening, said, vars_for}
+use Rattle.da_request.specs.declared.failures.FailedBy.TheVariants.{Limit as ByLimit}
 use Rattle.da_request.specs.declared.request.Body.{Body}
 use Rattle.da_request.specs.declared.request.Body.TheVariants.{Authenticates, LooksUp}
 use Rattle.da_request.specs.declared.request.Grant.{Grant}
@@ -88,7 +89,8 @@ challenge_in _ = None
 
 -- what a request is told whose limit came before a decision: its user is the login's, where what was said gives one
 abbrev pub timed_failure : Settings → Request → Decision
-timed_failure settings r = Failure (option_map (λ l. l.user) (login_of settings r)) false false false (Some (codes "Timed out"))
+timed_failure settings r =
+    Failure (option_map (λ l. l.user) (login_of settings r)) false false false (failure_code ByLimit false) (Some (codes "Timed out"))
 
 -- the decision: that of the limit for a request that is timed out, and else that of a decided stage
 unfoldable pub decision : Settings → Request → Option Decision
@@ -97,7 +99,7 @@ decision settings r = if r.is_timed_out then Some (timed_failure settings r) els
 -- ---- when a reply is due
 
 abbrev pub is_failure : Decision → Bool
-is_failure (Failure user authz temp disabled reason) = true
+is_failure (Failure user authz temp disabled code reason) = true
 is_failure _ = false
 
 abbrev pub is_login_success : Decision → Bool
@@ -164,13 +166,14 @@ is_granted_for number _ = false
 
 -- ---- the texts of replies
 
--- the line of a final reply
-abbrev pub final_line : ℕ → Decision → Bytes
-final_line id (Success user fields last) = reply_line (OkReply id user fields (option_map to_base64 last))
-final_line id (Failure user authz temp disabled reason) = reply_line (FailReply id user authz temp disabled reason)
-final_line id (UserGiven user fields) = master_reply_line (UserReply id user fields)
-final_line id UserUnknown = master_reply_line (NotFoundReply id)
-final_line id UserFailure = master_reply_line (LookupFailedReply id)
+-- the line of a final reply; a failure of a login has its code where the connection knows codes
+abbrev pub final_line : Bool → ℕ → Decision → Bytes
+final_line knows_codes id (Success user fields last) = reply_line (OkReply id user fields (option_map to_base64 last))
+final_line knows_codes id (Failure user authz temp disabled code reason) =
+    reply_line (FailReply id user authz temp disabled (if knows_codes then Some code else None) reason)
+final_line knows_codes id (UserGiven user fields) = master_reply_line (UserReply id user fields)
+final_line knows_codes id UserUnknown = master_reply_line (NotFoundReply id)
+final_line knows_codes id UserFailure = master_reply_line (LookupFailedReply id)
 
 abbrev pub challenge_line : ℕ → Bytes → Bytes
 challenge_line id text = reply_line (ContReply id (to_base64 text))
