@@ -2,6 +2,7 @@
 use Rattle.std.specs.Prelude.{◌≡◌, ◌⊎◌, ◌≤◌, ℕ, Bool, true, false, List, ◌∷◌, Option, Some, ◌==◌, is_some}
 use Rattle.std.specs.List.{list_any}
 use Rattle.da_base.specs.Words.{Bytes, later, nth, passes_option}
+use Rattle.da_msgs.specs.declared.code.Code.{Code}
 use Rattle.da_play.specs.Effects.{effects, final_replies}
 use Rattle.da_play.specs.History.{tables_of}
 use Rattle.da_play.specs.declared.input.Entry.{Entry}
@@ -14,10 +15,11 @@ use Rattle.da_settings.specs.declared.settings.Settings.{Settings}
 -- request was timed out
 abbrev pub FailuresWait : Type 0
 FailuresWait =
-    (settings : Settings) (e : Entry) (g : List Entry) (n : ℕ) (r : Request) (user : Option Bytes) (authz temp disabled : Bool) (reason : Option Bytes) →
+    (settings : Settings) (e : Entry) (g : List Entry) (n : ℕ) (r : Request) (user : Option Bytes) (authz temp disabled : Bool) (code : Code)
+    (reason : Option Bytes) →
     list_any (λ m. m == n) (final_replies (effects settings (tables_of settings g) e)) ≡ true →
     nth (tables_of settings (e ∷ g)).requests n ≡ Some r →
-    decision settings r ≡ Some (Failure user authz temp disabled reason) → has_nodelay r.answers ≡ false → r.is_timed_out ≡ false →
+    decision settings r ≡ Some (Failure user authz temp disabled code reason) → has_nodelay r.answers ≡ false → r.is_timed_out ≡ false →
     (decided : ℕ) × (r.decided ≡ Some decided) × (later decided settings.failure_delay ≤ e.moment)
 
 -- once the delay has passed since it was decided, no request is left without its reply, unless it is cancelled

@@ -1,3 +1,4 @@
+pub mod CodeLaws
 pub mod ComparisonLaws
 pub mod DelayLaws
 pub mod EndLaws

@@ -2,6 +2,7 @@
 use Rattle.std.specs.Prelude.{◌≡◌, ◌<◌, ℕ, true, false, List, ◌∷◌, ◌++◌, Some, None, codes, option_map, option_to_list, ◌==◌, is_some}
 use Rattle.std.specs.List.{list_any}
 use Rattle.da_base.specs.Words.{nth, count_where}
+use Rattle.da_msgs.specs.declared.code.Code.TheVariants.{Timeout}
 use Rattle.da_play.specs.Effects.{effects, final_replies}
 use Rattle.da_play.specs.History.{tables_of}
 use Rattle.da_play.specs.declared.effects.Effects.{Effects}
@@ -51,7 +52,7 @@ TimedOutIsSilent =
 abbrev pub TimedOutIsTold : Type 0
 TimedOutIsTold =
     (settings : Settings) (r : Request) → r.is_timed_out ≡ true →
-    decision settings r ≡ Some (Failure (option_map (λ l. l.user) (login_of settings r)) false false false (Some (codes "Timed out")))
+    decision settings r ≡ Some (Failure (option_map (λ l. l.user) (login_of settings r)) false false false Timeout (Some (codes "Timed out")))
 
 -- a Take hands out the first query that waited before it, also where its entry times that query's request out
 abbrev pub TakesTheFirst : Type 0

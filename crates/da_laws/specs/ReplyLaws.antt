@@ -9,6 +9,7 @@ use Rattle.da_request.specs.Requests.{decision, due_moment, final_line, is_due}
 use Rattle.da_request.specs.declared.request.Request.{Request}
 use Rattle.da_request.specs.declared.stages.Decision.{Decision}
 use Rattle.da_settings.specs.declared.settings.Settings.{Settings}
+use Rattle.da_tables.specs.Connections.{knows_codes_in}
 use Rattle.da_tables.specs.declared.connections.Connection.{Connection}
 use Rattle.da_tables.specs.declared.tables.Tables.{Tables}
 
@@ -44,4 +45,4 @@ EndedIsSilent =
 abbrev pub RepliesAreLines : Type 0
 RepliesAreLines =
     (settings : Settings) (tables : Tables) (n : ℕ) (r : Request) (d : Decision) →
-    nth tables.requests n ≡ Some r → decision settings r ≡ Some d → reply_lines settings tables n ≡ (r.conn, final_line r.id d) ∷ []
+    nth tables.requests n ≡ Some r → decision settings r ≡ Some d → reply_lines settings tables n ≡ (r.conn, final_line (knows_codes_in tables r.conn) r.id d) ∷ []

@@ -8,10 +8,11 @@ use Rattle.da_tables.specs.declared.connections.Connection.{Connection}
 use Rattle.da_tables.specs.declared.queries.QueryRow.{QueryRow}
 use Rattle.da_tables.specs.declared.tables.Tables.{Tables}
 
--- a connection keeps its kind and its cookie, and is never opened again
+-- a connection keeps its kind, its cookie and the version that it sent, and is never opened again
 pub record ConnectionStands (c d : Connection) : Type 0 where
   pub kind : d.kind ≡ c.kind
   pub cookie : d.cookie ≡ c.cookie
+  pub minor : (m : ℕ) → c.minor ≡ Some m → d.minor ≡ Some m
   pub is_ended : d.is_open ≡ true → c.is_open ≡ true
 
 -- a request keeps its connection, its id, whether it is a client's, and its grant; what is cancelled, decided or replied stays so, and what was
