@@ -29,7 +29,7 @@ pub fn merge(
 }
 
 /// The fields that a client is told: those that aren't for the user databases and have none of the keys `allow_nets`,
-/// `nodelay`, `password`, `user`, `reason` and `resp`.
+/// `nodelay`, `password`, `user`, `reason`, `resp` and `expired`.
 pub fn visible(alloc: Global, fields: &Fields) -> Result<Fields, AllocError>
     ensures { IfOk result (λ reported. reported ≡ visible fields.now) }
 {
@@ -72,4 +72,5 @@ fn is_hidden(key: &[u8]) -> bool
         || key == b"user".as_slice()
         || key == b"reason".as_slice()
         || key == b"resp".as_slice()
+        || key == b"expired".as_slice()
 }

@@ -3,6 +3,7 @@
 ghost use Rattle.std.specs.Prelude.{◌≡◌, [], IfOk, option_map};
 ghost use Rattle.da_msgs.specs.ClientMessages.{client_message, client_message_of, version_of, one_number, auth_of, auth_with, parameters_of, cont_of};
 
+use crate::code::Code;
 use crate::parameters::parameters_of;
 use crate::reading::{first, fits_a_line, one_number, texts_of, version_of};
 use da_fields::{Fields, Text};
@@ -174,6 +175,7 @@ pub enum Reply {
         authz: bool,
         temp: bool,
         disabled: bool,
+        code: Option<Code>,
         reason: Option<Text>,
     },
 }

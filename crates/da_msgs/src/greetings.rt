@@ -5,7 +5,8 @@ ghost use Rattle.da_base.specs.Words.{hex};
 ghost use Rattle.da_tabline.specs.Escapes.{spelled};
 ghost use Rattle.da_tabline.specs.Spelling.{more_fields};
 ghost use Rattle.da_msgs.specs.Replies.{greeting};
-ghost use Rattle.da_msgs.specs.Replies.{version_line, server_line, mechanism_line, mechanism_flags};
+ghost use Rattle.da_msgs.specs.declared.kinds.ConnKind.TheVariants.{Client, Master};
+ghost use Rattle.da_msgs.specs.Replies.{minor_version, version_line, server_line, mechanism_line, mechanism_flags};
 
 use crate::kinds::{ConnKind, Mech};
 use crate::printing::begin_reply;
@@ -55,11 +56,11 @@ fn client_lines(
     number: u32,
     digits: &[u8],
 ) -> Result<Vec<Text>, AllocError>
-    ensures { IfOk result (λ lines. lines.items ≡ version_line ∷ (map mechanism_line mechs.now
+    ensures { IfOk result (λ lines. lines.items ≡ version_line Client ∷ (map mechanism_line mechs.now
         ++ (server_line pid ∷ spelled (codes "CUID" ∷ decimal number ∷ []) ∷ spelled (codes "COOKIE" ∷ digits.now ∷ []) ∷ codes "DONE" ∷ []))) }
 {
     let mut lines = Vec::new(alloc);
-    lines.push(first_line(alloc)?)?;
+    lines.push(first_line(alloc, ConnKind::Client)?)?;
     for mech in mechs {
         lines.push(line_of(alloc, *mech)?)?;
     }
@@ -71,21 +72,30 @@ fn client_lines(
 }
 
 fn master_lines(alloc: Global, pid: u32) -> Result<Vec<Text>, AllocError>
-    ensures { IfOk result (λ lines. lines.items ≡ version_line ∷ server_line pid ∷ []) }
+    ensures { IfOk result (λ lines. lines.items ≡ version_line Master ∷ server_line pid ∷ []) }
 {
     let mut lines = Vec::new(alloc);
-    lines.push(first_line(alloc)?)?;
+    lines.push(first_line(alloc, ConnKind::Master)?)?;
     lines.push(number_line(alloc, b"SPID", pid)?)?;
     Ok(lines)
 }
 
-fn first_line(alloc: Global) -> Result<Text, AllocError>
-    ensures { IfOk result (λ line. line ≡ version_line) }
+fn first_line(alloc: Global, kind: ConnKind) -> Result<Text, AllocError>
+    ensures { IfOk result (λ line. line ≡ version_line kind) }
 {
     let mut line = escape(alloc, b"VERSION")?;
     push_field(&mut line, b"1")?;
-    push_field(&mut line, b"1")?;
+    push_field(&mut line, minor_version(kind))?;
     Ok(Text::new(line))
+}
+
+fn minor_version(kind: ConnKind) -> &'static [u8]
+    ensures { result.now ≡ minor_version kind }
+{
+    match kind {
+        ConnKind::Client => b"2",
+        ConnKind::Master => b"1",
+    }
 }
 
 fn number_line(alloc: Global, word: &[u8], number: u32) -> Result<Text, AllocError>

@@ -3,6 +3,7 @@
 #![tactic(auto)]
 
 mod client;
+mod code;
 mod greetings;
 mod kinds;
 mod laws;
@@ -12,6 +13,7 @@ mod printing;
 mod reading;
 
 pub use client::{ClientMsg, Reply};
+pub use code::Code;
 pub use greetings::{greeting, handshake};
 pub use kinds::{ConnKind, Mech};
 pub use laws::{

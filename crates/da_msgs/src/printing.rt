@@ -1,13 +1,14 @@
 // The lines of replies.
 
-ghost use Rattle.std.specs.Prelude.{◌≡◌, ◌++◌, ◌∷◌, [], IfOk, OnOk, map, decimal};
+ghost use Rattle.std.specs.Prelude.{◌≡◌, ◌++◌, ◌∷◌, [], IfOk, OnOk, map, option_map, codes, decimal};
 ghost use Rattle.da_fields.specs.FieldList.{field_text};
 ghost use Rattle.da_tabline.specs.Escapes.{spelled};
 ghost use Rattle.da_tabline.specs.Spelling.{more_fields};
 ghost use Rattle.da_msgs.specs.Lines.{optional_field, flag};
-ghost use Rattle.da_msgs.specs.Replies.{reply_line, master_reply_line};
+ghost use Rattle.da_msgs.specs.Replies.{code_word, reply_line, master_reply_line};
 
 use crate::client::Reply;
+use crate::code::Code;
 use crate::master::MasterReply;
 use da_fields::{Fields, Text, visible};
 use da_tabline::{escape, push_field};
@@ -43,6 +44,7 @@ impl Reply {
                 authz,
                 temp,
                 disabled,
+                code,
                 reason,
             } => {
                 let mut line = begin_reply(alloc, b"FAIL", *id)?;
@@ -50,6 +52,7 @@ impl Reply {
                 push_flag(&mut line, *authz, b"authz")?;
                 push_flag(&mut line, *temp, b"temp")?;
                 push_flag(&mut line, *disabled, b"user_disabled")?;
+                push_code(&mut line, alloc, *code)?;
                 push_optional(&mut line, alloc, b"reason", reason)?;
                 Ok(line)
             }
@@ -121,6 +124,18 @@ fn push_optional(
 {
     match value {
         Some(value) => push_pair(line, alloc, key, value),
+        None => Ok(()),
+    }
+}
+
+fn push_code(line: &mut Vec<u8>, alloc: Global, code: Option<Code>) -> Result<(), AllocError>
+    ensures { OnOk result (line.new.items ≡ line.old.items ++ more_fields (optional_field (codes "code") (option_map code_word code))) }
+{
+    match code {
+        Some(code) => {
+            let word = Text::from_slice(alloc, code.word())?;
+            push_pair(line, alloc, b"code", &word)
+        }
         None => Ok(()),
     }
 }

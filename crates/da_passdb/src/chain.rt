@@ -12,6 +12,8 @@ pub enum VerdictKind {
     Temp,
     /// A deny database has the user.
     Disabled,
+    /// It ended with success, and the fields say that the password is expired.
+    Expired,
 }
 
 /// The end of a chain.

@@ -1,7 +1,7 @@
 // The state of a chain.
 
 ghost use Rattle.std.specs.Prelude.{◌≡◌, IfOk};
-ghost use Rattle.da_passdb.specs.LoginChain.{Ended, by_rule, ended, no_progress};
+ghost use Rattle.da_passdb.specs.LoginChain.{Ended, by_rule, ended, is_expired, no_progress};
 ghost use Rattle.da_passdb.specs.Places.{are_masters, followed, JumpsFrom};
 
 use crate::chain::VerdictKind;
@@ -69,12 +69,23 @@ impl Progress {
         ensures { Ended result self.now ≡ ended self.now }
     {
         if self.success {
-            VerdictKind::Ok
+            if self.is_expired() {
+                VerdictKind::Expired
+            } else {
+                VerdictKind::Ok
+            }
         } else if self.internal {
             VerdictKind::Temp
         } else {
             VerdictKind::Fail
         }
+    }
+
+    // Whether the fields say that the password is expired.
+    fn is_expired(&self) -> bool
+        ensures { result ≡ is_expired self.now }
+    {
+        self.fields.get(b"expired").is_some()
     }
 
     /// Obeys a rule: whether there is success, and how the chain goes on.
