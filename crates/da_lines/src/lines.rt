@@ -122,7 +122,7 @@ fn apply_client_message(
     ensures { IfOk result (λ h. with_effect tables.new h ≡ after_client_message settings.now moment conn random.now message tables.old) }
 {
     match message {
-        ClientMsg::Version { .. } => tables.version(conn),
+        ClientMsg::Version { minor, .. } => tables.set_version(conn, minor),
         ClientMsg::Pid { pid } => tables.set_pid(conn, pid),
         ClientMsg::Auth {
             id,
@@ -166,7 +166,7 @@ fn apply_master_message(
     ensures { IfOk result (λ h. with_effect tables.new h ≡ after_master_message settings.now moment conn random.now message tables.old) }
 {
     match message {
-        MasterMsg::Version { .. } => tables.version(conn),
+        MasterMsg::Version { minor, .. } => tables.set_version(conn, minor),
         MasterMsg::Request {
             id,
             pid,

@@ -1,9 +1,10 @@
 // The stage of an attempt to log in.
 
-ghost use Rattle.std.specs.Prelude.{◌≡◌, IfOk, codes, Some};
+ghost use Rattle.std.specs.Prelude.{◌≡◌, IfOk, codes};
 ghost use Rattle.da_fields.specs.FieldList.{field};
-ghost use Rattle.da_request.specs.Attempts.{Attempt, attempt_stage, after_chain, after_verdict, with_credentials, after_proof, plain_failure, failure, is_disabled, is_temp};
+ghost use Rattle.da_request.specs.Attempts.{Attempt, attempt_stage, after_chain, after_verdict, with_credentials, after_proof, decided_by, failed, failure, failure_code, failure_with, has_proof, has_success, is_disabled, is_temp};
 
+use crate::failures::FailedBy;
 use crate::mechanisms::mechanism_says;
 use crate::openings::{Opening, opening_of};
 use crate::stages::{Decision, Question, Stage};
@@ -86,16 +87,43 @@ fn after_verdict(
 ) -> Result<Stage, AllocError>
     ensures { IfOk result (λ stage. stage ≡ after_verdict verdict.kind mech settings.now attempt.now verdict) }
 {
+    if has_success(verdict.kind) && has_proof(mech) {
+        with_credentials(alloc, mech, settings, attempt, verdict)
+    } else {
+        decided_by(alloc, verdict, None)
+    }
+}
+
+// Whether the chain ended with success.
+fn has_success(kind: VerdictKind) -> bool
+    ensures { result ≡ has_success kind }
+{
+    match kind {
+        VerdictKind::Ok | VerdictKind::Expired => true,
+        VerdictKind::Fail | VerdictKind::Temp | VerdictKind::Disabled => false,
+    }
+}
+
+// Whether the client proves that it knows the password, and doesn't tell it.
+fn has_proof(mech: Mech) -> bool
+    ensures { result ≡ has_proof mech }
+{
+    match mech {
+        Mech::CramMd5 | Mech::ScramSha256 => true,
+        Mech::Plain | Mech::Login => false,
+    }
+}
+
+// Decided with this verdict: a success where it is Ok, with the mechanism's last message, and else a failure.
+fn decided_by(alloc: Global, verdict: Verdict, last: Option<Text>) -> Result<Stage, AllocError>
+    ensures { IfOk result (λ stage. stage ≡ decided_by verdict.kind verdict last) }
+{
     match verdict.kind {
-        VerdictKind::Ok => match mech {
-            Mech::Plain | Mech::Login => Ok(success(verdict, None)),
-            Mech::CramMd5 | Mech::ScramSha256 => {
-                with_credentials(alloc, mech, settings, attempt, verdict)
-            }
-        },
-        VerdictKind::Fail | VerdictKind::Temp | VerdictKind::Disabled => {
-            failure(alloc, verdict, None)
-        }
+        VerdictKind::Ok => Ok(success(verdict, last)),
+        VerdictKind::Fail
+        | VerdictKind::Temp
+        | VerdictKind::Disabled
+        | VerdictKind::Expired => failure(alloc, verdict),
     }
 }
 
@@ -109,7 +137,7 @@ fn with_credentials(
     ensures { IfOk result (λ stage. stage ≡ with_credentials mech settings.now attempt.now verdict verdict.credentials) }
 {
     match &verdict.credentials {
-        None => plain_failure(alloc, verdict, None),
+        None => failure(alloc, failed(verdict)),
         Some(stored) => {
             let said = mechanism_says(alloc, mech, settings, attempt, Some(stored))?;
             after_proof(alloc, verdict, said)
@@ -123,11 +151,11 @@ fn after_proof(alloc: Global, verdict: Verdict, said: Said) -> Result<Stage, All
 {
     match said {
         Said::Challenge(text) => Ok(Stage::Awaits(text)),
-        Said::Proof { right: true, last } => Ok(success(verdict, last)),
-        Said::Proof { right: false, .. } => plain_failure(alloc, verdict, None),
+        Said::Proof { right: true, last } => decided_by(alloc, verdict, last),
+        Said::Proof { right: false, .. } => failure(alloc, failed(verdict)),
         Said::Need { .. } | Said::Bad => {
             let reason = Text::from_slice(alloc, b"Invalid response")?;
-            plain_failure(alloc, verdict, Some(reason))
+            Ok(failure_with(failed(verdict), FailedBy::Protocol, Some(reason)))
         }
     }
 }
@@ -142,26 +170,22 @@ fn success(verdict: Verdict, last: Option<Text>) -> Stage
     })
 }
 
-// A failure that tells of nothing but a wrong login.
-fn plain_failure(alloc: Global, verdict: Verdict, reason: Option<Text>) -> Result<Stage, AllocError>
-    ensures { IfOk result (λ stage. stage ≡ plain_failure verdict reason) }
+// The verdict of a login that is wrong.
+fn failed(verdict: Verdict) -> Verdict
+    ensures { result ≡ failed verdict }
 {
     let mut verdict = verdict;
     verdict.kind = VerdictKind::Fail;
-    failure(alloc, verdict, reason)
+    verdict
 }
 
-// A failure told for the chain's user, with this reason, or else with that of the chain's fields.
-fn failure(alloc: Global, verdict: Verdict, reason: Option<Text>) -> Result<Stage, AllocError>
-    ensures { IfOk result (λ stage. stage ≡ failure verdict reason) }
+// A failure by this verdict, with the reason of the chain's fields.
+fn failure(alloc: Global, verdict: Verdict) -> Result<Stage, AllocError>
+    ensures { IfOk result (λ stage. stage ≡ failure verdict) }
 {
-    match reason {
-        None => {
-            let reason = told_reason(alloc, &verdict.fields)?;
-            Ok(failure_for(verdict, reason))
-        }
-        reason => Ok(failure_for(verdict, reason)),
-    }
+    let reason = told_reason(alloc, &verdict.fields)?;
+    let failed_by = FailedBy::Verdict(verdict.kind);
+    Ok(failure_with(verdict, failed_by, reason))
 }
 
 fn told_reason(alloc: Global, fields: &Fields) -> Result<Option<Text>, AllocError>
@@ -173,8 +197,9 @@ fn told_reason(alloc: Global, fields: &Fields) -> Result<Option<Text>, AllocErro
     }
 }
 
-fn failure_for(verdict: Verdict, reason: Option<Text>) -> Stage
-    ensures { result ≡ Stage.Decided (Decision.Failure (Some verdict.user) verdict.authz (is_temp verdict.kind) (is_disabled verdict.kind) reason) }
+// A failure told for the chain's user.
+fn failure_with(verdict: Verdict, failed_by: FailedBy, reason: Option<Text>) -> Stage
+    ensures { result ≡ failure_with verdict failed_by reason }
 {
     let temp = matches!(verdict.kind, VerdictKind::Temp);
     let disabled = matches!(verdict.kind, VerdictKind::Disabled);
@@ -183,6 +208,7 @@ fn failure_for(verdict: Verdict, reason: Option<Text>) -> Stage
         authz: verdict.authz,
         temp,
         disabled,
+        code: failed_by.code(verdict.authz),
         reason,
     })
 }

@@ -6,6 +6,7 @@
 
 mod attempts;
 mod copies;
+mod failures;
 mod limits;
 mod logins;
 mod mechanisms;

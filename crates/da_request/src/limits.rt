@@ -3,6 +3,7 @@
 ghost use Rattle.std.specs.Prelude.{◌≡◌, ◌<◌, ◌^◌, ◌-◌, IfOk};
 ghost use Rattle.da_request.specs.Requests.{has_limit, is_over_limit, is_wanted, limit_moment, timed_failure, timed_out_if_over};
 
+use crate::failures::FailedBy;
 use crate::request::Request;
 use crate::stages::Decision;
 use crate::uses::is_authentication;
@@ -67,6 +68,7 @@ impl Request {
             authz: false,
             temp: false,
             disabled: false,
+            code: FailedBy::Limit.code(false),
             reason: Some(Text::from_slice(alloc, b"Timed out")?),
         })
     }

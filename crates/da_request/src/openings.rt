@@ -6,6 +6,7 @@ ghost use Rattle.da_fields.specs.FieldList.{field};
 ghost use Rattle.da_request.specs.Attempts.{opening, opening_said, opening_named, fails_for, login_proof, vars_for};
 
 use crate::attempts::Attempt;
+use crate::failures::FailedBy;
 use crate::mechanisms::mechanism_says;
 use crate::names::names;
 use crate::stages::{Decision, Stage};
@@ -102,6 +103,7 @@ fn immediate_failure(alloc: Global, reason: &[u8]) -> Result<Opening, AllocError
         authz: false,
         temp: false,
         disabled: false,
+        code: FailedBy::Protocol.code(false),
         reason: Some(Text::from_slice(alloc, reason)?),
     })))
 }

@@ -11,9 +11,15 @@ use da_fields::{Fields, Text};
 use da_msgs::{MasterReply, Reply};
 use std::alloc::{AllocError, Global};
 
-/// The line of a final reply to the request of this id, without its LF.
-pub fn final_line(alloc: Global, id: u32, decision: &Decision) -> Result<Text, AllocError>
-    ensures { IfOk result (λ line. line ≡ final_line id decision.now) }
+/// The line of a final reply to the request of this id, without its LF. A failure of a login has its code where the
+/// connection knows codes.
+pub fn final_line(
+    alloc: Global,
+    knows_codes: bool,
+    id: u32,
+    decision: &Decision,
+) -> Result<Text, AllocError>
+    ensures { IfOk result (λ line. line ≡ final_line knows_codes id decision.now) }
 {
     match decision {
         Decision::Success { user, fields, last } => success_line(alloc, id, user, fields, last),
@@ -22,11 +28,13 @@ pub fn final_line(alloc: Global, id: u32, decision: &Decision) -> Result<Text, A
             authz,
             temp,
             disabled,
+            code,
             reason,
         } => {
             let user = optional_copy(alloc, user)?;
             let reason = optional_copy(alloc, reason)?;
             let (authz, temp, disabled) = (*authz, *temp, *disabled);
+            let code = if knows_codes { Some(*code) } else { None };
             printed(
                 alloc,
                 &Reply::Fail {
@@ -35,6 +43,7 @@ pub fn final_line(alloc: Global, id: u32, decision: &Decision) -> Result<Text, A
                     authz,
                     temp,
                     disabled,
+                    code,
                     reason,
                 },
             )

@@ -11,7 +11,7 @@ use crate::messages::said;
 use crate::openings::{Opening, opening_of};
 use crate::request::{Answers, Body, Grant, Request};
 use da_fields::{Answer, Fields, QueryKind, Text};
-use da_msgs::Mech;
+use da_msgs::{Code, Mech};
 use da_passdb::Login;
 use da_settings::{Settings, Texts};
 use da_userdb::{Lookup, UserChain, user_next};
@@ -39,6 +39,8 @@ pub enum Decision {
         authz: bool,
         temp: bool,
         disabled: bool,
+        /// Why it failed, whether the client is told or not.
+        code: Code,
         reason: Option<Text>,
     },
     UserGiven {

@@ -3,7 +3,7 @@
 ghost use Rattle.std.specs.List.{list_any};
 ghost use Rattle.std.specs.Prelude.{◌≡◌, ◌<◌, ◌^◌, ◌-◌, ◌&&◌, ◌==◌, length};
 ghost use Rattle.da_base.specs.Words.{number_where, count_where, changed_nth};
-ghost use Rattle.da_tables.specs.Connections.{has_pid, open_count, request_number, client_may, master_may, may_authenticate, may_look_up, may_tell_pid, may_tell_version, with_version, with_pid};
+ghost use Rattle.da_tables.specs.Connections.{has_pid, has_version, knows_codes, knows_codes_in, open_count, request_number, client_may, master_may, may_authenticate, may_look_up, may_tell_pid, may_tell_version, with_version, with_pid};
 ghost use Rattle.da_tables.specs.Tables.{is_client, is_open_in, closed};
 
 use crate::requests::{number_called, pending_count};
@@ -22,8 +22,8 @@ pub struct Connection {
     pub kind: ConnKind,
     /// Its random bytes in hexadecimal digits.
     pub cookie: Text,
-    /// It sent its version.
-    pub has_version: bool,
+    /// The minor version that it sent.
+    pub minor: Option<u32>,
     /// The process number that a client sent.
     pub pid: Option<u32>,
     pub is_open: bool,
@@ -59,18 +59,35 @@ impl Connection {
         self.is_of_client() && self.is_open && self.pid == Some(pid)
     }
 
+    /// Whether it sent its version.
+    pub fn has_version(&self) -> bool
+        ensures { result ≡ has_version self.now }
+    {
+        self.minor.is_some()
+    }
+
+    /// Whether it sent the minor version 2 or a greater one, and so knows the codes of failures.
+    pub fn knows_codes(&self) -> bool
+        ensures { result ≡ knows_codes self.now }
+    {
+        match self.minor {
+            Some(minor) => minor >= 2,
+            None => false,
+        }
+    }
+
     /// Whether its version may be told: once, and of major 1.
     pub fn may_tell_version(&self, major: u32) -> bool
         ensures { result ≡ may_tell_version major self.now }
     {
-        !self.has_version && major == 1
+        !self.has_version() && major == 1
     }
 
     /// Whether its client may tell its process number, which another open client has or hasn't.
     pub fn may_tell_pid(&self, is_taken: bool) -> bool
         ensures { result ≡ may_tell_pid is_taken self.now }
     {
-        self.has_version && self.pid.is_none() && !is_taken
+        self.has_version() && self.pid.is_none() && !is_taken
     }
 
     /// Whether its client may begin a request: the number of the request that it calls by the same id is handed in, or 0,
@@ -78,14 +95,14 @@ impl Connection {
     pub fn may_authenticate(&self, called: u32, pending: usize) -> bool
         ensures { result ≡ may_authenticate called pending self.now }
     {
-        self.has_version && self.pid.is_some() && called == 0 && pending < REQUESTS_MAX
+        self.has_version() && self.pid.is_some() && called == 0 && pending < REQUESTS_MAX
     }
 
     /// Whether its master may begin a request: the number of the request that it calls by the same id is handed in, or 0.
     pub fn may_look_up(&self, called: u32) -> bool
         ensures { result ≡ may_look_up called self.now }
     {
-        self.has_version && called == 0
+        self.has_version() && called == 0
     }
 }
 
@@ -111,6 +128,16 @@ impl Tables {
     {
         match row(&self.connections.items, conn) {
             Some(connection) => connection.is_open,
+            None => false,
+        }
+    }
+
+    /// Whether the connection knows the codes of failures.
+    pub fn knows_codes(&self, conn: u32) -> bool
+        ensures { result ≡ knows_codes_in self.now conn }
+    {
+        match row(&self.connections.items, conn) {
+            Some(connection) => connection.knows_codes(),
             None => false,
         }
     }
@@ -153,7 +180,7 @@ impl Tables {
                 let pending = pending_count(&self.requests.items, conn);
                 connection.may_authenticate(self.request_number(conn, *id), pending)
             }
-            _ => connection.has_version && connection.pid.is_some(),
+            _ => connection.has_version() && connection.pid.is_some(),
         }
     }
 
@@ -167,7 +194,7 @@ impl Tables {
             MasterMsg::Request { id, .. } => {
                 connection.may_look_up(self.request_number(conn, *id))
             }
-            MasterMsg::Other => connection.has_version,
+            MasterMsg::Other => connection.has_version(),
         }
     }
 }
@@ -221,11 +248,11 @@ fn close(connections: &mut [Connection], conn: u32)
     }
 }
 
-pub(crate) fn version(connections: &mut [Connection], conn: u32)
-    ensures { connections.new ≡ changed_nth with_version connections.old conn }
+pub(crate) fn set_version(connections: &mut [Connection], conn: u32, minor: u32)
+    ensures { connections.new ≡ changed_nth (with_version minor) connections.old conn }
 {
     if conn > 0 && conn as usize <= connections.len() {
-        connections[conn as usize - 1].has_version = true;
+        connections[conn as usize - 1].minor = Some(minor);
     }
 }
 

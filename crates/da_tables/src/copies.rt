@@ -18,7 +18,7 @@ impl Connection {
         Ok(Connection {
             kind: self.kind,
             cookie: self.cookie.copy(alloc)?,
-            has_version: self.has_version,
+            minor: self.minor,
             pid: self.pid,
             is_open: self.is_open,
         })

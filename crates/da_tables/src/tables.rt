@@ -8,7 +8,7 @@ ghost use Rattle.da_tables.specs.Connections.{is_used, with_version, with_pid};
 ghost use Rattle.da_tables.specs.Queries.{as_taken};
 ghost use Rattle.da_tables.specs.Tables.{with_request, continuing_new, with_due_replied, with_timed_out, with_query, at_start, with_end, with_connection};
 
-use crate::connections::{Connection, Connections, set_pid, version};
+use crate::connections::{Connection, Connections, set_pid, set_version};
 use crate::input_effect::InputEffect;
 use crate::keys::Keys;
 use crate::numbers::Numbers;
@@ -86,13 +86,13 @@ impl Tables {
         kind: ConnKind,
         random: &[u8; 16],
     ) -> Result<(), AllocError>
-        ensures { OnOk result (self.new ≡ record self.old { connections = self.old.connections ++ record { kind = kind; cookie = hex random.now; has_version = false; pid = None; is_open = true } ∷ [] }) }
+        ensures { OnOk result (self.new ≡ record self.old { connections = self.old.connections ++ record { kind = kind; cookie = hex random.now; minor = None; pid = None; is_open = true } ∷ [] }) }
     {
         let cookie = Text::new(hex_digits(alloc, random)?);
         self.connections.items.push(Connection {
             kind,
             cookie,
-            has_version: false,
+            minor: None,
             pid: None,
             is_open: true,
         })?;
@@ -170,11 +170,11 @@ impl Tables {
         self.requests.cancel_of(conn);
     }
 
-    /// The connection sent its version.
-    pub fn version(&mut self, conn: u32)
-        ensures { self.new ≡ with_connection with_version conn self.old }
+    /// The connection sent its version, of this minor.
+    pub fn set_version(&mut self, conn: u32, minor: u32)
+        ensures { self.new ≡ with_connection (with_version minor) conn self.old }
     {
-        version(&mut self.connections.items, conn);
+        set_version(&mut self.connections.items, conn, minor);
     }
 
     /// The client of the connection sent its process number.
