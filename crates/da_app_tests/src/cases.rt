@@ -36,7 +36,7 @@ const LONG: &[u8] =
     b"1 open client -\n20 line 1 - VERSION\t1\t1\n3 line 1 - CPID\t4711\n4 line 1 - \tx\n5 ti";
 
 const GREETING: &[u8] =
-    b"3 > 12 VERSION\t1\t1\n3 > 12 MECH\tPLAIN\tplaintext\n3 > 12 SPID\t1\n3 > 12 CUID\t12\n\
+    b"3 > 12 VERSION\t1\t2\n3 > 12 MECH\tPLAIN\tplaintext\n3 > 12 SPID\t1\n3 > 12 CUID\t12\n\
 3 > 12 COOKIE\t00000000000000000000000000000000\n3 > 12 DONE\n";
 
 fn stands_for(alloc: Global, short: &[u8], long: &[u8]) -> Result<bool, AllocError> {

@@ -14,11 +14,15 @@ mod pw;
 #[cfg(test)]
 mod runs;
 #[cfg(test)]
+mod tests_of_codes;
+#[cfg(test)]
 mod tests_of_connections;
 #[cfg(test)]
 mod tests_of_databases;
 #[cfg(test)]
 mod tests_of_delays;
+#[cfg(test)]
+mod tests_of_expired;
 #[cfg(test)]
 mod tests_of_handovers;
 #[cfg(test)]

@@ -141,6 +141,7 @@ fn kind_word(kind: VerdictKind) -> &'static [u8] {
         VerdictKind::Fail => b"fail ",
         VerdictKind::Temp => b"temp ",
         VerdictKind::Disabled => b"disabled ",
+        VerdictKind::Expired => b"expired ",
     }
 }
 
@@ -297,18 +298,23 @@ const CASES: [(Scene, &[u8]); 11] = [
     (
         Scene::Plain,
         b">pass 1 alice\nI>pass 2 alice\nI|U>temp alice\nU|U>fail alice\nF{PLAIN}pw home=/h>ok alice stored home=/h\n\
-F{PLAIN}no home=/h|U>fail alice\nF{CRYPT}x|Fpw>ok alice stored\nP|U>temp alice",
+F{PLAIN}no home=/h|U>fail alice\nF{PLAIN}pw expired>expired alice stored expired=\n\
+F{PLAIN}pw userdb_expired>ok alice stored userdb_expired=\nF{PLAIN}no expired|U>fail alice\nF{CRYPT}x|Fpw>ok alice stored\nP|U>temp alice",
     ),
     (
         Scene::Deny,
-        b"F>disabled alice\nI>temp alice\nU>pass 2 alice",
+        b"F>disabled alice\nF expired>disabled alice\nI>temp alice\nU>pass 2 alice",
     ),
     (
         Scene::Master,
         b">pass 1 root\nF{PLAIN}pw>pass 2 bob\nF{PLAIN}pw|U>fail bob authz stored\n\
-F{PLAIN}pw|F{PLAIN}other>ok bob authz stored\nF{PLAIN}no>fail bob",
+F{PLAIN}pw|F{PLAIN}other>ok bob authz stored\nF{PLAIN}no>fail bob\n\
+F{PLAIN}pw expired|F{PLAIN}other>expired bob authz stored expired=",
     ),
-    (Scene::MasterReturns, b"F{PLAIN}pw>ok bob stored"),
+    (
+        Scene::MasterReturns,
+        b"F{PLAIN}pw>ok bob stored\nF{PLAIN}pw expired>expired bob stored expired=",
+    ),
     (
         Scene::ContinueOk,
         b"F{PLAIN}pw quota=big mail=a|F{PLAIN}pw allow_nets=10.0.0.0/8 mail=b>ok alice stored quota=imap mail=a\n\
@@ -321,13 +327,17 @@ F{PLAIN}pw|F{PLAIN}other mail=b>ok alice stored quota=imap mail=b",
     (
         Scene::Check,
         b">pass 1 alice\nU>check 2 alice\nU|P home=/h>ok alice home=/h\nU|P allow_nets=10.0.0.0/8>fail alice\n\
-U|M>fail alice\nF{PLAIN}pw>fail alice stored",
+U|P expired=no>expired alice expired=no\nU|M>fail alice\nF{PLAIN}pw>fail alice stored",
     ),
     (Scene::Filter, b">pass 2 alice"),
-    (Scene::ReturnFail, b"F{PLAIN}pw|I>temp alice stored"),
+    (
+        Scene::ReturnFail,
+        b"F{PLAIN}pw|I>temp alice stored\nF{PLAIN}pw expired|I>temp alice stored expired=\n\
+F{PLAIN}pw expired|U>expired alice stored expired=",
+    ),
     (
         Scene::Cram,
-        b"F{PLAIN}pw>ok alice stored\nF{SHA}qZk+NkcGgWq6PiVxeFDCbJzQ2J0=|U>fail alice",
+        b"F{PLAIN}pw>ok alice stored\nF{PLAIN}pw expired>expired alice stored expired=\nF{SHA}qZk+NkcGgWq6PiVxeFDCbJzQ2J0=|U>fail alice",
     ),
     (
         Scene::Scram,

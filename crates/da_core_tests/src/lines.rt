@@ -14,7 +14,7 @@ const FIRST_LOGIN: &[u8] = b"1 open client -\n\
 20 answer FOUND\t1\t{PLAIN}pw";
 
 /// What the first connection is sent.
-const SENT: &[u8] = b"VERSION\t1\t1\n\
+const SENT: &[u8] = b"VERSION\t1\t2\n\
 MECH\tPLAIN\tplaintext\n\
 SPID\t1\n\
 CUID\t1\n\

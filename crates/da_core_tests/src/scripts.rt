@@ -2,7 +2,7 @@
 
 use crate::both::are_played_alike;
 use da_scripts::{
-    Case, connections, databases, delays, handovers, limits, lost_queries, mechanisms, the_cache,
+    Case, codes, connections, databases, delays, expired, handovers, limits, lost_queries, mechanisms, the_cache,
     whole_paths,
 };
 use std::alloc::{AllocError, Global};
@@ -27,6 +27,31 @@ fn scripts_of_connections_are_played_alike(rt: HostRuntime) -> Result<(), Fail> 
         &connections::A_USED_NUMBER_OF_A_REQUEST_OR_PROCESS_CLOSES_THE_CONNECTION,
         &connections::REFUSED_EVENTS_GET_A_LINE_AND_THE_PLAY_GOES_ON,
         &connections::A_FULL_HISTORY_ENDS_THE_PLAY_BEFORE_ITS_EVENT,
+    ];
+    assert!(rt; are_all_alike(rt.alloc(), &tables)?);
+    Ok(())
+}
+
+#[test]
+fn scripts_of_codes_are_played_alike(rt: HostRuntime) -> Result<(), Fail> {
+    let tables: [&[Case]; 3] = [
+        &codes::A_FAILURE_IS_TOLD_WITH_ITS_CODE,
+        &codes::A_MASTER_LOGIN_HAS_THE_FIRST_CODE_THAT_APPLIES,
+        &codes::CODES_ARE_FOR_CLIENTS_THAT_KNOW_THEM,
+    ];
+    assert!(rt; are_all_alike(rt.alloc(), &tables)?);
+    Ok(())
+}
+
+#[test]
+fn scripts_of_expired_passwords_are_played_alike(rt: HostRuntime) -> Result<(), Fail> {
+    let tables: [&[Case]; 6] = [
+        &expired::AN_EXPIRED_PASSWORD_LETS_NOBODY_IN,
+        &expired::AN_EXPIRED_PASSWORD_IS_TOLD_AFTER_THE_DELAY,
+        &expired::ONLY_AN_END_WITH_SUCCESS_IS_EXPIRED,
+        &expired::A_WRONG_PROOF_IS_NOT_TOLD_AS_EXPIRED,
+        &expired::AN_EXPIRED_LOGIN_IS_HANDED_TO_NOBODY,
+        &expired::AN_EXPIRED_ANSWER_IS_USED_AGAIN,
     ];
     assert!(rt; are_all_alike(rt.alloc(), &tables)?);
     Ok(())

@@ -5,7 +5,8 @@ use std::alloc::{AllocError, Global};
 
 /// A script that is played under settings, what is written for it, and the words that it ends with; none where all of it
 /// is played. In script and output `~` stands for a TAB. In a script a line `I` with three moments stands for the events
-/// by which the first client introduces itself. In an output a line `H n c` stands for the greeting of client c at event
+/// by which the first client introduces itself, and a line `V` with three moments for those of a client that knows the
+/// codes of failures. In an output a line `H n c` stands for the greeting of client c at event
 /// n, and `H n c text` for one with this mechanism in place of PLAIN.
 #[derive(Drop)]
 pub struct Case {
@@ -39,7 +40,10 @@ fn with_tabs(alloc: Global, text: &[u8]) -> Result<Vec<u8>, AllocError> {
 
 fn push_line(lines: &mut Vec<u8>, line: &[u8]) -> Result<(), AllocError> {
     if let Some(moments) = strip_front(line, b"I ") {
-        return push_introduction(lines, moments);
+        return push_introduction(lines, moments, b"VERSION\t1\t1");
+    }
+    if let Some(moments) = strip_front(line, b"V ") {
+        return push_introduction(lines, moments, b"VERSION\t1\t2");
     }
     if let Some(greeting) = strip_front(line, b"H ") {
         return push_greeting(lines, greeting);
@@ -48,7 +52,11 @@ fn push_line(lines: &mut Vec<u8>, line: &[u8]) -> Result<(), AllocError> {
     lines.extend_from_slice(b"\n")
 }
 
-fn push_introduction(lines: &mut Vec<u8>, moments: &[u8]) -> Result<(), AllocError> {
+fn push_introduction(
+    lines: &mut Vec<u8>,
+    moments: &[u8],
+    version: &[u8],
+) -> Result<(), AllocError> {
     let Some((first, rest)) = split_at_byte(moments, b' ') else {
         return Ok(());
     };
@@ -58,7 +66,9 @@ fn push_introduction(lines: &mut Vec<u8>, moments: &[u8]) -> Result<(), AllocErr
     lines.extend_from_slice(first)?;
     lines.extend_from_slice(b" open client -\n")?;
     lines.extend_from_slice(second)?;
-    lines.extend_from_slice(b" line 1 - VERSION\t1\t1\n")?;
+    lines.extend_from_slice(b" line 1 - ")?;
+    lines.extend_from_slice(version)?;
+    lines.extend_from_slice(b"\n")?;
     lines.extend_from_slice(third)?;
     lines.extend_from_slice(b" line 1 - CPID\t4711\n")
 }
@@ -79,7 +89,7 @@ fn push_greeting_with(
     conn: &[u8],
     mechanism: &[u8],
 ) -> Result<(), AllocError> {
-    push_sent(lines, event, conn, b"VERSION\t1\t", b"1")?;
+    push_sent(lines, event, conn, b"VERSION\t1\t", b"2")?;
     push_sent(lines, event, conn, b"MECH\t", mechanism)?;
     push_sent(lines, event, conn, b"SPID\t", b"1")?;
     push_sent(lines, event, conn, b"CUID\t", conn)?;

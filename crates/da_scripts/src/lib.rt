@@ -3,9 +3,11 @@
 #![tactic(auto)]
 
 mod cases;
+pub mod codes;
 pub mod connections;
 pub mod databases;
 pub mod delays;
+pub mod expired;
 pub mod handovers;
 pub mod limits;
 pub mod lost_queries;

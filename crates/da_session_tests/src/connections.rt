@@ -11,7 +11,7 @@ const AT_ONCE: &[u8] = b"failure_delay = 0\n";
 
 const INTRODUCTION: &[u8] = b"VERSION\t1\t1\nCPID\t7\n";
 
-const GREETING: &[u8] = b"VERSION\t1\t1\n\
+const GREETING: &[u8] = b"VERSION\t1\t2\n\
 MECH\tPLAIN\tplaintext\n\
 SPID\t1\n\
 CUID\t1\n\
@@ -99,7 +99,7 @@ fn a_client_is_greeted_and_ends(rt: HostRuntime) {
     }
 }
 
-const OTHER_GREETING: &[u8] = b"VERSION\t1\t1\n\
+const OTHER_GREETING: &[u8] = b"VERSION\t1\t2\n\
 MECH\tPLAIN\tplaintext\n\
 SPID\t1\n\
 CUID\t1\n\

@@ -59,7 +59,7 @@ fn overrides_stand_above_what_was_found_and_defaults_below(rt: HostRuntime) -> R
 }
 
 const FOR_THE_SERVICE: &[u8] =
-    b"userdb_home=/home/alice;allow_nets=10.0.0.0/8;nodelay;mail=a;userdb_uid=1000";
+    b"userdb_home=/home/alice;allow_nets=10.0.0.0/8;nodelay;expired=yes;mail=a;userdb_uid=1000";
 
 #[test]
 fn a_client_is_not_told_what_is_for_the_service(rt: HostRuntime) -> Result<(), Fail> {

@@ -136,6 +136,7 @@ fn fail(alloc: Global) -> Result<Reply, AllocError> {
         authz: true,
         temp: false,
         disabled: true,
+        code: None,
         reason: Some(reason),
     })
 }
@@ -167,7 +168,7 @@ fn replies_have_their_fields_in_order(rt: HostRuntime) -> Result<(), Fail> {
 const MECHS: [Mech; 3] = [Mech::Plain, Mech::CramMd5, Mech::ScramSha256];
 
 const GREETING: &[u8] =
-    b"VERSION\t1\t1\nMECH\tPLAIN\tplaintext\nMECH\tCRAM-MD5\tdictionary\tactive\nMECH\tSCRAM-SHA-256\tmutual-auth\n\
+    b"VERSION\t1\t2\nMECH\tPLAIN\tplaintext\nMECH\tCRAM-MD5\tdictionary\tactive\nMECH\tSCRAM-SHA-256\tmutual-auth\n\
 SPID\t1\nCUID\t2\nCOOKIE\tc0c0c0c0c0c0c0c0c0c0c0c0c0c0c0c0\nDONE\n";
 
 fn joined(alloc: Global, lines: &[Text]) -> Result<Vec<u8>, AllocError> {
@@ -184,10 +185,53 @@ fn greets_a_client(alloc: Global) -> Result<bool, AllocError> {
     Ok(joined(alloc, &lines)?.as_slice() == GREETING)
 }
 
+fn greets_a_master(alloc: Global) -> Result<bool, AllocError> {
+    let lines = handshake(alloc, ConnKind::Master, &MECHS, 7, 2, &[0; 16])?;
+    Ok(joined(alloc, &lines)?.as_slice() == b"VERSION\t1\t1\nSPID\t7\n")
+}
+
 #[test]
 fn a_client_is_greeted_with_the_mechanisms(rt: HostRuntime) -> Result<(), Fail> {
-    let alloc = rt.alloc();
-    assert!(rt; greets_a_client(alloc)?);
-    assert!(rt; handshake(alloc, ConnKind::Master, &MECHS, 1, 2, &[0; 16])?.len() == 2);
+    assert!(rt; greets_a_client(rt.alloc())?);
+    Ok(())
+}
+
+#[test]
+fn a_master_is_greeted_with_a_lesser_minor_version(rt: HostRuntime) -> Result<(), Fail> {
+    assert!(rt; greets_a_master(rt.alloc())?);
+    Ok(())
+}
+
+// A failure with this code, and with all that may stand about it.
+fn fails_with(alloc: Global, code: Option<Code>, wanted: &[u8]) -> Result<bool, AllocError> {
+    let reason = text(alloc, b"why")?;
+    let fail = Reply::Fail {
+        id: 9,
+        user: None,
+        authz: true,
+        temp: true,
+        disabled: false,
+        code,
+        reason: Some(reason),
+    };
+    is_printed(alloc, &fail, wanted)
+}
+
+const CODES: [(Option<Code>, &[u8]); 8] = [
+    (Some(Code::Temp), b"FAIL\t9\tauthz\ttemp\tcode=temp\treason=why"),
+    (Some(Code::Disabled), b"FAIL\t9\tauthz\ttemp\tcode=disabled\treason=why"),
+    (Some(Code::Expired), b"FAIL\t9\tauthz\ttemp\tcode=expired\treason=why"),
+    (Some(Code::Timeout), b"FAIL\t9\tauthz\ttemp\tcode=timeout\treason=why"),
+    (Some(Code::Protocol), b"FAIL\t9\tauthz\ttemp\tcode=protocol\treason=why"),
+    (Some(Code::Authz), b"FAIL\t9\tauthz\ttemp\tcode=authz\treason=why"),
+    (Some(Code::Credentials), b"FAIL\t9\tauthz\ttemp\tcode=credentials\treason=why"),
+    (None, b"FAIL\t9\tauthz\ttemp\treason=why"),
+];
+
+#[test]
+fn a_failure_has_its_code_before_its_reason(rt: HostRuntime) -> Result<(), Fail> {
+    for (code, wanted) in CODES {
+        assert!(rt; fails_with(rt.alloc(), code, wanted)?);
+    }
     Ok(())
 }

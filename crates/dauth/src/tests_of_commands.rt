@@ -11,7 +11,7 @@ use std::{fs, io};
 /// A command line, its input, the numbers of the read and of the write that fail, its code, and what it writes.
 type Case = (&'static str, &'static [u8], u64, u64, u8, &'static [u8]);
 
-const GREETING: &[u8] = b"1 > 1 VERSION\t1\t1\n\
+const GREETING: &[u8] = b"1 > 1 VERSION\t1\t2\n\
 1 > 1 MECH\tPLAIN\tplaintext\n\
 1 > 1 SPID\t1\n\
 1 > 1 CUID\t1\n\
