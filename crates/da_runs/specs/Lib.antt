@@ -1,4 +1,5 @@
 pub mod RunWords
+pub mod RunsOfCodes
 pub mod RunsOfConnections
 pub mod RunsOfDatabases
 pub mod RunsOfDelays

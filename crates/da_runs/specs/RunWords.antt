@@ -32,6 +32,11 @@ abbrev pub introduced : ℕ → ℕ → ℕ → List Event
 introduced first second third =
     opened first Client ∷ line second 1 (codes "VERSION\t1\t1") ∷ line third 1 (codes "CPID\t4711") ∷ []
 
+-- the first connection is that of a client that knows the codes of failures
+abbrev pub introduced_with_codes : ℕ → ℕ → ℕ → List Event
+introduced_with_codes first second third =
+    opened first Client ∷ line second 1 (codes "VERSION\t1\t2") ∷ line third 1 (codes "CPID\t4711") ∷ []
+
 -- a client asks for a login by the mechanism PLAIN: this is the number of its request, and the message in base64
 abbrev pub plain_login : ℕ → Bytes → Bytes
 plain_login id message = codes "AUTH\t" ++ decimal id ++ codes "\tPLAIN\tservice=imap\tresp=" ++ message
@@ -92,7 +97,7 @@ greets entry conn mechanism =
     Ok (record (nothing_of entry) {
       conn = Some conn;
       lines =
-          (conn, codes "VERSION\t1\t1") ∷ (conn, codes "MECH\t" ++ mechanism) ∷ (conn, codes "SPID\t1")
+          (conn, codes "VERSION\t1\t2") ∷ (conn, codes "MECH\t" ++ mechanism) ∷ (conn, codes "SPID\t1")
           ∷ (conn, codes "CUID\t" ++ decimal conn) ∷ (conn, codes "COOKIE\t00000000000000000000000000000000") ∷ (conn, codes "DONE") ∷ [];
     })
 
