@@ -1,5 +1,5 @@
 -- What a request asks is a database that it has no answer of.
-use Rattle.std.proofs.Common.{◌≡◌, refl, subst, Option, Some, None, List, [], ◌∷◌, Bool, true, false}
+use Rattle.std.proofs.Common.{◌≡◌, refl, subst, Option, Some, None, List, [], ◌∷◌, Bool, true, false, ◌&&◌, if◌then◌else◌}
 use Rattle.std.proofs.lemmas.Option.{none-some, same_Some}
 use Rattle.da_tables.proofs.Cases.{by_test}
 use Rattle.da_base.specs.Words.{Bytes, is_empty}
@@ -24,7 +24,7 @@ use Rattle.da_passdb.specs.declared.chain.Chain.{Chain}
 use Rattle.da_passdb.specs.declared.chain.Chain.TheVariants.{Ask, Done}
 use Rattle.da_passdb.specs.declared.chain.Verdict.{Verdict}
 use Rattle.da_passdb.specs.declared.chain.VerdictKind.{VerdictKind}
-use Rattle.da_passdb.specs.declared.chain.VerdictKind.TheVariants.{Ok as IsOkay, Fail as IsFail, Temp as IsTemp, Disabled as IsDisabled}
+use Rattle.da_passdb.specs.declared.chain.VerdictKind.TheVariants.{Ok as IsOkay, Fail as IsFail, Temp as IsTemp, Disabled as IsDisabled, Expired as IsExpired}
 use Rattle.da_passdb.specs.declared.database.Passdb.{Passdb}
 use Rattle.da_passdb.specs.declared.login.Login.{Login}
 use Rattle.da_userdb.specs.UserChain.{UserMove, UserGoOn, UserStop, user_end, user_move, prefetch_move, user_answer_move, after_user_outcome, by_user_rule, with_user_outcome, user_outcome, is_user_skipped, is_prefetch, user_walk, user_continued, user_chain, no_user_progress}
@@ -33,7 +33,7 @@ use Rattle.da_userdb.specs.declared.database.Lookup.{Lookup}
 use Rattle.da_userdb.specs.declared.database.UserChain.{UserChain}
 use Rattle.da_userdb.specs.declared.database.UserChain.TheVariants.{Ask as AskUser, Found as UserFound, NotFound as UserNotFound, Temp as UserFailed}
 use Rattle.da_userdb.specs.declared.database.Userdb.{Userdb}
-use Rattle.da_request.specs.Attempts.{Attempt, opening, opening_by, opening_said, opening_named, mechanism_says, names, attempt_stage, stage_from, after_chain, after_verdict, with_credentials, after_proof}
+use Rattle.da_request.specs.Attempts.{Attempt, opening, opening_by, opening_said, opening_named, mechanism_says, names, attempt_stage, stage_from, after_chain, after_verdict, with_credentials, after_proof, decided_by, has_proof, has_success}
 use Rattle.da_request.specs.declared.openings.Opening.{Opening}
 use Rattle.da_request.specs.declared.openings.Opening.TheVariants.{Immediate, LogsIn}
 use Rattle.da_request.specs.Requests.{request_stage, body_stage, question_in, lookup_stage}
@@ -204,29 +204,30 @@ module _ (settings : Settings) where
   opening_new answers None a = tt
   opening_new answers (Some mech) a = said_new answers mech a (mechanism_says mech settings a a.messages None)
 
+  decided_new : (answers : Answers) (k : VerdictKind) (v : Verdict) (last : Option Bytes) → StageIsNew answers (decided_by k v last)
+  decided_new answers IsOkay v last = tt
+  decided_new answers IsFail v last = tt
+  decided_new answers IsTemp v last = tt
+  decided_new answers IsDisabled v last = tt
+  decided_new answers IsExpired v last = tt
+
   proof_new : (answers : Answers) (v : Verdict) (s : Said) → StageIsNew answers (after_proof v s)
   proof_new answers v (Challenge text) = tt
   proof_new answers v (Need name authzid password) = tt
-  proof_new answers v (Proves true last) = tt
+  proof_new answers v (Proves true last) = decided_new answers v.kind v last
   proof_new answers v (Proves false last) = tt
   proof_new answers v Bad = tt
 
+  credentials_new : (answers : Answers) (mech : Mech) (a : Attempt) (v : Verdict) (o : Option StoredPassword) → StageIsNew answers (with_credentials mech settings a v o)
+  credentials_new answers mech a v None = tt
+  credentials_new answers mech a v (Some stored) = proof_new answers v (mechanism_says mech settings a a.messages (Some stored))
+
   verdict_new : (answers : Answers) (k : VerdictKind) (mech : Mech) (a : Attempt) (v : Verdict) → StageIsNew answers (after_verdict k mech settings a v)
-  verdict_new answers IsOkay Plain a v = tt
-  verdict_new answers IsOkay LoginMech a v = tt
-  verdict_new answers IsOkay CramMd5 a v = credentials v.credentials
+  verdict_new answers k mech a v = go (has_success k && has_proof mech)
     where
-      credentials : (o : Option StoredPassword) → StageIsNew answers (with_credentials CramMd5 settings a v o)
-      credentials None = tt
-      credentials (Some stored) = proof_new answers v (mechanism_says CramMd5 settings a a.messages (Some stored))
-  verdict_new answers IsOkay ScramSha256 a v = credentials v.credentials
-    where
-      credentials : (o : Option StoredPassword) → StageIsNew answers (with_credentials ScramSha256 settings a v o)
-      credentials None = tt
-      credentials (Some stored) = proof_new answers v (mechanism_says ScramSha256 settings a a.messages (Some stored))
-  verdict_new answers IsFail mech a v = tt
-  verdict_new answers IsTemp mech a v = tt
-  verdict_new answers IsDisabled mech a v = tt
+      go : (b : Bool) → StageIsNew answers (if b then with_credentials mech settings a v v.credentials else decided_by k v None)
+      go true = credentials_new answers mech a v v.credentials
+      go false = decided_new answers k v None
 
   attempt_new : (a : Attempt) → StageIsNew a.answers (attempt_stage settings a)
   unfolding attempt_stage opening

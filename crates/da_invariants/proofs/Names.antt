@@ -18,7 +18,7 @@ use Rattle.da_request.specs.declared.request.Body.{Body}
 use Rattle.da_request.specs.declared.request.Request.{Request}
 use Rattle.da_settings.specs.declared.settings.Settings.{Settings}
 use Rattle.std.specs.Prelude.{nat_lt}
-use Rattle.da_tables.specs.Connections.{has_pid, pending_count, request_number}
+use Rattle.da_tables.specs.Connections.{has_pid, pending_count, request_number, has_version}
 use Rattle.da_tables.specs.Tables.{closed, is_client, with_due_replied, with_end, with_timed_out}
 use Rattle.da_tables.specs.declared.connections.Connection.{Connection}
 use Rattle.da_tables.specs.declared.tables.Tables.{Tables}
@@ -143,8 +143,8 @@ module _ (settings : Settings) (moment : ℕ) (before : Tables) (entered : Input
 
   input_apart : InputParts settings moment before entered (λ tables m. PidsAreApart tables.connections)
   input_apart = record {
-    opens = λ kind random l p. opened_apart before.connections (record { kind = kind; cookie = hex random; has_version = false; pid = None; is_open = true }) refl p;
-    tells = λ conn change h told p. tells_apart before change h told p conn;
+    opens = λ kind random l p. opened_apart before.connections (record { kind = kind; cookie = hex random; minor = None; pid = None; is_open = true }) refl p;
+    tells = λ conn change h told p. tells_apart before change h told.pid p conn;
     ends = λ conn e p. end_apart conn p;
     cancels = λ n e p. p;
     texts = λ conn id random text m r is w p. p;
@@ -262,10 +262,10 @@ module _ (settings : Settings) (moment : ℕ) (before : Tables) (entered : Input
     where
       go : MadeLogin before entered conn id random body ⊎ MadeLookup settings moment before entered conn id random body → request_number before conn id ≡ 0
       go (inl (mech, params, resp, reads, same)) =
-          eqb-true (request_number before conn id) 0 (and_second (reads.connection.has_version && is_some reads.connection.pid) (request_number before conn id == 0)
-          (and_first (reads.connection.has_version && is_some reads.connection.pid && (request_number before conn id == 0)) (nat_lt (pending_count before conn) 1000) reads.may))
+          eqb-true (request_number before conn id) 0 (and_second (has_version reads.connection && is_some reads.connection.pid) (request_number before conn id == 0)
+          (and_first (has_version reads.connection && is_some reads.connection.pid && (request_number before conn id == 0)) (nat_lt (pending_count before conn) 1000) reads.may))
       go (inr (pid, client, cookie, reads, same)) =
-          eqb-true (request_number before conn id) 0 (and_second reads.connection.has_version (request_number before conn id == 0) reads.may)
+          eqb-true (request_number before conn id) 0 (and_second (has_version reads.connection) (request_number before conn id == 0) reads.may)
 
   made_ids : (conn id : ℕ) (random : Bytes) (body : Body) → IsMade settings moment before entered conn id random body → IdsAreApart before.requests →
       IdsAreApart (before.requests ++ new_request moment conn id random body ∷ [])

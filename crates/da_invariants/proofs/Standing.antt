@@ -1,5 +1,6 @@
 -- What is done stays, whatever comes later.
 use Rattle.std.proofs.Common.{◌≡◌, refl, sym, ◌∙◌, ap, Option, Some, List, [], ◌∷◌, ◌++◌, ℕ, zero, suc, Bool, true, false, codes, if◌then◌else◌, option_map, slice_get, ◌||◌, true≢false}
+use Rattle.da_msgs.specs.declared.code.Code.TheVariants.{Timeout}
 use Rattle.std.specs.List.{list_any}
 use Rattle.std.proofs.lemmas.Option.{none-some, same_Some}
 use Rattle.da_base.specs.Words.{nth}
@@ -60,7 +61,7 @@ used_stays_used settings newer h n used = go (some_row (λ q. is_granted_for n q
 -- ---- what is decided
 
 abbrev timed_failure_for : Option Login → Decision
-timed_failure_for login = Failure (option_map (λ l. l.user) login) false false false (Some (codes "Timed out"))
+timed_failure_for login = Failure (option_map (λ l. l.user) login) false false false Timeout (Some (codes "Timed out"))
 
 -- what is decided by its limit is told for the same user, and what is decided by its stage has the same stage
 pub decisions_stand : DecisionsStand

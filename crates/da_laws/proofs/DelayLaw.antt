@@ -1,5 +1,6 @@
 -- How long final replies are held back, from the laws on what is due.
 use Rattle.std.proofs.Common.{◌≡◌, ◌⊎◌, inl, inr, refl, sym, ◌∙◌, ap, ap₂, subst, Option, Some, None, List, [], ◌∷◌, ℕ, zero, suc, ◌≤◌, Bool, true, false, cond, not, ◌&&◌, ◌||◌, nat_le, option_map, if◌then◌else◌, is_some, true≢false, arith}
+use Rattle.da_msgs.specs.declared.code.Code.{Code}
 use Rattle.std.specs.List.{list_any}
 use Rattle.std.proofs.lemmas.Bool.Decides.{nat_tests}
 use Rattle.std.proofs.lemmas.Option.{none-some, same_Some}
@@ -24,10 +25,10 @@ is_at_most m n h = grind (arith, nat_tests, h)
 
 -- ---- the delay of a request
 
-failure_delays : (settings : Settings) (r : Request) (user : Option Bytes) (authz temp disabled : Bool) (reason : Option Bytes) →
-    decision settings r ≡ Some (Failure user authz temp disabled reason) → has_nodelay r.answers ≡ false → reply_delay settings r ≡ settings.failure_delay
+failure_delays : (settings : Settings) (r : Request) (user : Option Bytes) (authz temp disabled : Bool) (code : Code) (reason : Option Bytes) →
+    decision settings r ≡ Some (Failure user authz temp disabled code reason) → has_nodelay r.answers ≡ false → reply_delay settings r ≡ settings.failure_delay
 unfolding reply_delay
-failure_delays settings r user authz temp disabled reason failed delays =
+failure_delays settings r user authz temp disabled code reason failed delays =
     ap (λ d. cond (passes_option is_failure d && not (has_nodelay r.answers)) settings.failure_delay 0) failed
     ∙ ap (λ b. cond (not b) settings.failure_delay 0) delays
 
@@ -61,12 +62,12 @@ decided_in_time settings moment r t (Some decided) e =
     (decided, refl, subst (λ (due : ℕ). due ≤ moment) (due_after settings r decided t) (at_most (due_from settings r decided) moment e))
 
 pub failures_wait : FailuresWait
-failures_wait settings e g n r user authz temp disabled reason reported here failed delays unlimited =
+failures_wait settings e g n r user authz temp disabled code reason reported here failed delays unlimited =
     let due = replies_are_due settings e g n reported in
     let same : due.0 ≡ r = same_Some due.0 r (sym due.1 ∙ here) in
     let in_time = decided_in_time settings e.moment r unlimited r.decided
     (subst (λ (s : Request). passes_option (λ m. nat_le m e.moment) (due_moment settings s) ≡ true) same due.4) in
-    (in_time.0, in_time.1, subst (λ span. later in_time.0 span ≤ e.moment) (failure_delays settings r user authz temp disabled reason failed delays) in_time.2)
+    (in_time.0, in_time.1, subst (λ span. later in_time.0 span ≤ e.moment) (failure_delays settings r user authz temp disabled code reason failed delays) in_time.2)
 
 -- ---- nothing is left
 

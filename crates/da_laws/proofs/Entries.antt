@@ -8,7 +8,7 @@ use Rattle.da_base.specs.Words.{nth, changed_at, changed_nth, passes_option, opt
 use Rattle.da_fields.specs.declared.answer.Answer.{Answer}
 use Rattle.da_fields.specs.declared.answer.Answer.TheVariants.{Internal}
 use Rattle.da_fields.specs.declared.answer.Why.TheVariants.{Late as WasLate}
-use Rattle.da_tables.specs.Connections.{client_may, master_may, request_number}
+use Rattle.da_tables.specs.Connections.{client_may, master_may, request_number, with_version}
 use Rattle.da_lines.specs.Grants.{granted, grant_on, grant_for, usable_login}
 use Rattle.da_tables.specs.Connections.{connection_with}
 use Rattle.da_request.specs.Requests.{is_fresh}
@@ -201,7 +201,7 @@ fair_cancels settings n tables = by_test (λ h. IsFair tables.requests h) (passe
     (λ e. fair_applies tables tables (all_same tables.requests))
 
 fair_client_message : (settings : Settings) (moment conn : ℕ) (random : Bytes) (message : ClientMsg) (tables : Tables) → IsFair tables.requests (after_client_message settings moment conn random message tables)
-fair_client_message settings moment conn random (Version major minor) tables = fair_applies tables (with_connection (λ c. record c { has_version = true }) conn tables) (all_same tables.requests)
+fair_client_message settings moment conn random (Version major minor) tables = fair_applies tables (with_connection (with_version minor) conn tables) (all_same tables.requests)
 fair_client_message settings moment conn random (Pid pid) tables = fair_applies tables (with_connection (λ c. record c { pid = Some pid }) conn tables) (all_same tables.requests)
 fair_client_message settings moment conn random (Auth id mechanism parameters resp) tables =
     fair_new tables (new_request moment conn id random (Authenticates mechanism parameters resp [])) refl (λ c e. absurd (true≢false (sym e)))
@@ -248,7 +248,7 @@ unused_grant rs None h c e = absurd (true≢false (sym e))
 unused_grant rs (Some g) h c e = subst (λ m. is_used m rs ≡ false) (eqb-true _ _ e) (h g refl)
 
 fair_master_message : (settings : Settings) (moment conn : ℕ) (random : Bytes) (message : MasterMsg) (tables : Tables) → IsFair tables.requests (after_master_message settings moment conn random message tables)
-fair_master_message settings moment conn random (MasterVersion major minor) tables = fair_applies tables (with_connection (λ c. record c { has_version = true }) conn tables) (all_same tables.requests)
+fair_master_message settings moment conn random (MasterVersion major minor) tables = fair_applies tables (with_connection (with_version minor) conn tables) (all_same tables.requests)
 fair_master_message settings moment conn random (LookupRequest id pid client cookie) tables =
     fair_new tables (new_request moment conn id random (LooksUp (granted settings moment tables pid client cookie))) refl
     (unused_grant tables.requests (granted settings moment tables pid client cookie) (granted_unused settings moment tables pid client cookie))

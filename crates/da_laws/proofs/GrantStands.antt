@@ -73,7 +73,7 @@ login_of (Authenticates mech params resp texts) (Success user fields last) looku
     let made : Lookup = record { user = user; passdb_fields = fields; vars = vars_for user params } in
     let same : made ≡ lookup = same_Some made lookup e in
     record { last = last; is = ap (λ (l : Lookup). Success l.user l.passdb_fields last) same }
-login_of (Authenticates mech params resp texts) (Failure user authz temp disabled reason) lookup e = absurd (none-some lookup e)
+login_of (Authenticates mech params resp texts) (Failure user authz temp disabled code reason) lookup e = absurd (none-some lookup e)
 login_of (Authenticates mech params resp texts) (UserGiven user fields) lookup e = absurd (none-some lookup e)
 login_of (Authenticates mech params resp texts) UserUnknown lookup e = absurd (none-some lookup e)
 login_of (Authenticates mech params resp texts) UserFailure lookup e = absurd (none-some lookup e)

@@ -1,5 +1,5 @@
 -- An OK has its answer, and a USER its grant.
-use Rattle.std.proofs.Common.{◌≡◌, refl, sym, ◌∙◌, ap, Option, Some, None, Bool, true, false, true≢false}
+use Rattle.std.proofs.Common.{◌≡◌, refl, sym, ◌∙◌, ap, Option, Some, None, Bool, true, false, true≢false, ◌&&◌, if◌then◌else◌}
 use Rattle.std.proofs.lemmas.Option.{none-some, same_Some}
 use Rattle.std.specs.Prelude.{option_and_then}
 use Rattle.da_laws.proofs.SuccessLaw.{success_has_its_answer}
@@ -7,7 +7,7 @@ use Rattle.da_base.specs.Words.{Bytes}
 use Rattle.da_fields.specs.FieldList.{Pairs}
 use Rattle.da_fields.specs.declared.said.Said.{Said}
 use Rattle.da_fields.specs.declared.said.Said.TheVariants.{Challenge, Need, Proof as Proven, Bad}
-use Rattle.da_request.specs.Attempts.{Attempt, mechanism_says, names, opening_named, opening_said, opening_by, opening, failure, after_proof, with_credentials, after_verdict, after_chain, stage_from, attempt_stage, login_in}
+use Rattle.da_request.specs.Attempts.{Attempt, mechanism_says, names, opening_named, opening_said, opening_by, opening, after_proof, with_credentials, after_verdict, after_chain, stage_from, attempt_stage, login_in, decided_by, has_proof, has_success}
 use Rattle.da_request.specs.declared.openings.Opening.{Opening}
 use Rattle.da_request.specs.declared.openings.Opening.TheVariants.{Immediate, LogsIn}
 use Rattle.da_laws.proofs.Decisions.{by_stage_alone}
@@ -29,7 +29,7 @@ use Rattle.da_passdb.specs.declared.chain.Chain.{Chain}
 use Rattle.da_passdb.specs.declared.chain.Chain.TheVariants.{Ask, Done}
 use Rattle.da_passdb.specs.declared.chain.Verdict.{Verdict}
 use Rattle.da_passdb.specs.declared.chain.VerdictKind.{VerdictKind}
-use Rattle.da_passdb.specs.declared.chain.VerdictKind.TheVariants.{Ok as IsOkay, Fail as IsFail, Temp as IsTemp, Disabled as IsDisabled}
+use Rattle.da_passdb.specs.declared.chain.VerdictKind.TheVariants.{Ok as IsOkay, Fail as IsFail, Temp as IsTemp, Disabled as IsDisabled, Expired as IsExpired}
 use Rattle.da_passdb.specs.declared.login.Login.{Login}
 use Rattle.da_schemes.specs.Stored.{StoredPassword}
 use Rattle.da_userdb.specs.UserChain.{user_chain}
@@ -63,11 +63,6 @@ user_told (Decided d) user fields e = ap (λ x. tells_user (Decided x)) (same_So
 abbrev Untold : Stage → Type 0
 Untold s = (tells_ok s ≡ false) × (tells_user s ≡ false)
 
-failure_untold : (v : Verdict) (reason : Option Bytes) → Untold (failure v reason)
-unfolding tells_ok tells_user
-failure_untold v None = (refl, refl)
-failure_untold v (Some reason) = (refl, refl)
-
 -- an attempt has neither before a database is asked
 OpensUntold : Opening → Type 0
 OpensUntold (Immediate s) = Untold s
@@ -92,16 +87,39 @@ by_untold (Some m) settings a = said_untold m settings a (mechanism_says m setti
 
 -- ---- an OK
 
-kind_okay : (k : VerdictKind) (m : Mech) (settings : Settings) (a : Attempt) (v : Verdict) → tells_ok (after_verdict k m settings a v) ≡ true → k ≡ IsOkay
-kind_okay IsOkay m settings a v e = refl
-kind_okay IsFail m settings a v e = absurd (true≢false (sym e ∙ (failure_untold v None).0))
-kind_okay IsTemp m settings a v e = absurd (true≢false (sym e ∙ (failure_untold v None).0))
-kind_okay IsDisabled m settings a v e = absurd (true≢false (sym e ∙ (failure_untold v None).0))
+decided_okay : (k : VerdictKind) (v : Verdict) (last : Option Bytes) → tells_ok (decided_by k v last) ≡ true → k ≡ IsOkay
+unfolding tells_ok
+decided_okay IsOkay v last e = refl
+decided_okay IsFail v last e = absurd (true≢false (sym e))
+decided_okay IsTemp v last e = absurd (true≢false (sym e))
+decided_okay IsDisabled v last e = absurd (true≢false (sym e))
+decided_okay IsExpired v last e = absurd (true≢false (sym e))
+
+proof_okay : (v : Verdict) (s : Said) → tells_ok (after_proof v s) ≡ true → v.kind ≡ IsOkay
+unfolding tells_ok
+proof_okay v (Challenge text) e = absurd (true≢false (sym e))
+proof_okay v (Need name authzid password) e = absurd (true≢false (sym e))
+proof_okay v (Proven true last) e = decided_okay v.kind v last e
+proof_okay v (Proven false last) e = absurd (true≢false (sym e))
+proof_okay v Bad e = absurd (true≢false (sym e))
+
+credentials_okay : (m : Mech) (settings : Settings) (a : Attempt) (v : Verdict) (o : Option StoredPassword) → tells_ok (with_credentials m settings a v o) ≡ true → v.kind ≡ IsOkay
+unfolding tells_ok
+credentials_okay m settings a v None e = absurd (true≢false (sym e))
+credentials_okay m settings a v (Some stored) e = proof_okay v (mechanism_says m settings a a.messages (Some stored)) e
+
+-- a login that is told OK has the verdict Ok
+pub verdict_okay : (m : Mech) (settings : Settings) (a : Attempt) (v : Verdict) → tells_ok (after_verdict v.kind m settings a v) ≡ true → v.kind ≡ IsOkay
+verdict_okay m settings a v e = go (has_success v.kind && has_proof m) e
+  where
+    go : (b : Bool) → tells_ok (if b then with_credentials m settings a v v.credentials else decided_by v.kind v None) ≡ true → v.kind ≡ IsOkay
+    go true t = credentials_okay m settings a v v.credentials t
+    go false t = decided_okay v.kind v None t
 
 chain_ok : (m : Mech) (settings : Settings) (a : Attempt) (login : Login) (c : Chain) → AllStrict settings.passdb → login_chain settings.passdb login a.answers ≡ c → tells_ok (after_chain m settings a c) ≡ true → HasSuccess settings.passdb login a.answers
 unfolding tells_ok
 chain_ok m settings a login (Ask db kind user checked) s e t = absurd (true≢false (sym t))
-chain_ok m settings a login (Done v) s e t = success_has_its_answer settings.passdb login a.answers v s e (kind_okay v.kind m settings a v t)
+chain_ok m settings a login (Done v) s e t = success_has_its_answer settings.passdb login a.answers v s e (ap has_success (verdict_okay m settings a v t))
 
 from_ok : (settings : Settings) (a : Attempt) (o : Opening) → OpensUntold o → AllStrict settings.passdb → tells_ok (stage_from settings a o) ≡ true → (login : Login) × (login_in o ≡ Some login) × HasSuccess settings.passdb login a.answers
 unfolding OpensUntold
@@ -132,27 +150,33 @@ ok_has_its_answer settings r user fields last d e =
 
 -- ---- a USER
 
+u_decided : (k : VerdictKind) (v : Verdict) (last : Option Bytes) → tells_user (decided_by k v last) ≡ false
+unfolding tells_user
+u_decided IsOkay v last = refl
+u_decided IsFail v last = refl
+u_decided IsTemp v last = refl
+u_decided IsDisabled v last = refl
+u_decided IsExpired v last = refl
+
 u_proof : (v : Verdict) (s : Said) → tells_user (after_proof v s) ≡ false
 unfolding tells_user
 u_proof v (Challenge text) = refl
 u_proof v (Need name authzid password) = refl
-u_proof v (Proven true last) = refl
+u_proof v (Proven true last) = u_decided v.kind v last
 u_proof v (Proven false last) = refl
 u_proof v Bad = refl
 
 u_credentials : (m : Mech) (settings : Settings) (a : Attempt) (v : Verdict) (o : Option StoredPassword) → tells_user (with_credentials m settings a v o) ≡ false
-u_credentials m settings a v None = (failure_untold (record v { kind = IsFail }) None).1
+unfolding tells_user
+u_credentials m settings a v None = refl
 u_credentials m settings a v (Some stored) = u_proof v (mechanism_says m settings a a.messages (Some stored))
 
 u_verdict : (k : VerdictKind) (m : Mech) (settings : Settings) (a : Attempt) (v : Verdict) → tells_user (after_verdict k m settings a v) ≡ false
-unfolding tells_user
-u_verdict IsOkay Plain settings a v = refl
-u_verdict IsOkay LoginMech settings a v = refl
-u_verdict IsOkay CramMd5 settings a v = u_credentials CramMd5 settings a v v.credentials
-u_verdict IsOkay ScramSha256 settings a v = u_credentials ScramSha256 settings a v v.credentials
-u_verdict IsFail m settings a v = (failure_untold v None).1
-u_verdict IsTemp m settings a v = (failure_untold v None).1
-u_verdict IsDisabled m settings a v = (failure_untold v None).1
+u_verdict k m settings a v = go (has_success k && has_proof m)
+  where
+    go : (b : Bool) → tells_user (if b then with_credentials m settings a v v.credentials else decided_by k v None) ≡ false
+    go true = u_credentials m settings a v v.credentials
+    go false = u_decided k v None
 
 u_chain : (m : Mech) (settings : Settings) (a : Attempt) (c : Chain) → tells_user (after_chain m settings a c) ≡ false
 unfolding tells_user

@@ -1,5 +1,6 @@
 -- A final reply is one of a request that is decided, by its stage or by its limit, and whose reply is due.
 use Rattle.std.proofs.Common.{◌≡◌, ◌≢◌, refl, sym, ◌∙◌, ap, subst, Option, Some, None, List, [], ◌∷◌, ◌++◌, ℕ, zero, suc, ◌+◌, Bool, true, false, cond, not, ◌&&◌, ◌||◌, map, slice_get, is_some, option_map, option_and_then, if◌then◌else◌, codes, true≢false, nat_le, ◌==◌, arith, option_to_list, eq-eqb}
+use Rattle.da_msgs.specs.declared.code.Code.TheVariants.{Timeout}
 use Rattle.std.specs.List.{list_any}
 use Rattle.std.proofs.lemmas.Bool.{eqb-true}
 use Rattle.std.proofs.lemmas.Option.{none-some, same_Some}
@@ -50,7 +51,7 @@ marked_attempt settings r c d p (LooksUp grant) = refl
 
 -- the failure of a request that makes this attempt, and is timed out
 abbrev failure_of : Settings → Option Attempt → Decision
-failure_of settings attempt = Failure (option_map (λ l. l.user) (option_and_then (λ a. login_in (opening settings a)) attempt)) false false false (Some (codes "Timed out"))
+failure_of settings attempt = Failure (option_map (λ l. l.user) (option_and_then (λ a. login_in (opening settings a)) attempt)) false false false Timeout (Some (codes "Timed out"))
 
 marked_decision : (settings : Settings) (r : Request) (c : Bool) (d p : Option ℕ) → decision settings (marked r c d p) ≡ decision settings r
 unfolding decision request_stage login_of

@@ -327,9 +327,9 @@ module _ (settings : Settings) (e : Entry) (g : List Entry) (conn : ℕ) (c : Co
   replies_silent : (n : ℕ) → ((r : Request) → nth final.requests n ≡ Some r → r.conn ≢ conn) → IsSilent (reply_lines settings final n)
   replies_silent n h = go (nth final.requests n) refl
     where
-      go : (o : Option Request) → nth final.requests n ≡ o → IsSilent (option_or_else o [] (λ r. reply_to settings r ∷ []))
+      go : (o : Option Request) → nth final.requests n ≡ o → IsSilent (option_or_else o [] (λ r. reply_to settings final r ∷ []))
       go None x = refl
-      go (Some r) x = line_silent r.conn (reply_to settings r).1 (h r x)
+      go (Some r) x = line_silent r.conn (reply_to settings final r).1 (h r x)
 
   challenges_silent : (n : ℕ) → ((r : Request) → nth final.requests n ≡ Some r → r.conn ≢ conn) → IsSilent (challenge_lines settings final n)
   challenges_silent n h = go (nth final.requests n) refl

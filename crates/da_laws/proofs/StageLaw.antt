@@ -1,5 +1,5 @@
 -- The stage of an attempt depends on the attempt alone, and on its answers by their databases.
-use Rattle.std.proofs.Common.{◌≡◌, refl, sym, ◌∙◌, ap, Option, Some, None, List, [], ◌∷◌, ℕ, Bool}
+use Rattle.std.proofs.Common.{◌≡◌, refl, sym, ◌∙◌, ap, Option, Some, None, List, [], ◌∷◌, ℕ, Bool, ◌&&◌, if◌then◌else◌}
 use Rattle.std.proofs.lemmas.Option.{none-some, same_Some}
 use Rattle.da_base.specs.Words.{Bytes}
 use Rattle.da_fields.specs.Answers.{Answers, answer_from}
@@ -18,8 +18,7 @@ use Rattle.da_schemes.specs.Stored.{StoredPassword}
 use Rattle.da_passdb.specs.declared.chain.Chain.TheVariants.{Ask, Done}
 use Rattle.da_passdb.specs.declared.chain.Verdict.{Verdict}
 use Rattle.da_passdb.specs.declared.chain.VerdictKind.{VerdictKind}
-use Rattle.da_passdb.specs.declared.chain.VerdictKind.TheVariants.{Ok as IsOkay, Fail as IsFail, Temp as IsTemp, Disabled as IsDisabled}
-use Rattle.da_request.specs.Attempts.{Attempt, mechanism_says, names, opening, opening_by, opening_said, opening_named, stage_from, after_proof, with_credentials, after_verdict, after_chain, attempt_stage}
+use Rattle.da_request.specs.Attempts.{Attempt, mechanism_says, names, opening, opening_by, opening_said, opening_named, stage_from, after_proof, with_credentials, after_verdict, after_chain, attempt_stage, decided_by, has_proof, has_success}
 use Rattle.da_request.specs.declared.openings.Opening.{Opening}
 use Rattle.da_request.specs.declared.openings.Opening.TheVariants.{Immediate, LogsIn}
 use Rattle.da_request.specs.Requests.{request_stage, body_stage, attempt_of, attempt_in}
@@ -76,13 +75,12 @@ credentials_same m settings a ys v (Some stored) = ap (after_proof v) (says_same
 
 verdict_same : (k : VerdictKind) (m : Mech) (settings : Settings) (a : Attempt) (ys : Answers) (v : Verdict) →
     after_verdict k m settings (with_answers a ys) v ≡ after_verdict k m settings a v
-verdict_same IsOkay Plain settings a ys v = refl
-verdict_same IsOkay LoginMech settings a ys v = refl
-verdict_same IsOkay CramMd5 settings a ys v = credentials_same CramMd5 settings a ys v v.credentials
-verdict_same IsOkay ScramSha256 settings a ys v = credentials_same ScramSha256 settings a ys v v.credentials
-verdict_same IsFail m settings a ys v = refl
-verdict_same IsTemp m settings a ys v = refl
-verdict_same IsDisabled m settings a ys v = refl
+verdict_same k m settings a ys v = go (has_success k && has_proof m)
+  where
+    go : (b : Bool) → (if b then with_credentials m settings (with_answers a ys) v v.credentials else decided_by k v None)
+        ≡ (if b then with_credentials m settings a v v.credentials else decided_by k v None)
+    go true = credentials_same m settings a ys v v.credentials
+    go false = refl
 
 after_same : (m : Mech) (settings : Settings) (a : Attempt) (ys : Answers) (c : Chain) → after_chain m settings (with_answers a ys) c ≡ after_chain m settings a c
 after_same m settings a ys (Ask db kind user checked) = refl

@@ -1,5 +1,6 @@
 -- A login that ends well has a recorded answer that is a success.
 use Rattle.std.proofs.Common.{◌≡◌, refl, sym, ◌∙◌, ap, Option, Some, None, List, [], ◌∷◌, Bool, true, false, cond, not, ◌&&◌, ◌||◌, filter, true≢false, ◌⊎◌, inl, inr}
+use Rattle.da_request.specs.Attempts.{has_success}
 use Rattle.da_tables.proofs.Cases.{by_test}
 use Rattle.da_base.specs.Words.{Bytes}
 use Rattle.da_fields.specs.Answers.{Answers, answer_from, is_success, rule_for}
@@ -11,45 +12,36 @@ use Rattle.da_fields.specs.declared.outcome.Rule.{Rule}
 use Rattle.da_fields.specs.declared.outcome.Rule.TheVariants.{ReturnOk, ReturnFail, Return, ContinueOk, ContinueFail, Continue}
 use Rattle.da_laws.specs.SuccessLaws.{lets_in, IsStrict, AllStrict, IsAmong, HasSuccess}
 use Rattle.da_names.specs.declared.variables.Vars.{Vars}
-use Rattle.da_passdb.specs.LoginChain.{no_progress, Walk, Asking, Ended, Jumped, Move, GoOn, Stop, ended, going_on, by_rule, with_outcome, after_outcome, deny_move, answer_move, move, is_passed_over, is_unaskable, continued, walk, chain_of, users_part, after_masters, chain_for, login_chain}
+use Rattle.da_passdb.specs.LoginChain.{no_progress, Walk, Asking, Ended, Jumped, Move, GoOn, Stop, ended, going_on, by_rule, with_outcome, after_outcome, deny_move, answer_move, move, is_passed_over, is_unaskable, continued, walk, chain_of, users_part, after_masters, chain_for, login_chain, is_expired}
 use Rattle.da_passdb.specs.declared.progress.Progress.{Progress}
 use Rattle.da_passdb.specs.Outcomes.{outcome, is_plaintext_proof}
 use Rattle.da_passdb.specs.declared.chain.Chain.{Chain}
 use Rattle.da_passdb.specs.declared.chain.Chain.TheVariants.{Ask, Done}
 use Rattle.da_passdb.specs.declared.chain.Verdict.{Verdict}
 use Rattle.da_passdb.specs.declared.chain.VerdictKind.{VerdictKind}
-use Rattle.da_passdb.specs.declared.chain.VerdictKind.TheVariants.{Ok as IsOkay, Fail as IsFail, Temp as IsTemp, Disabled as IsDisabled}
+use Rattle.da_passdb.specs.declared.chain.VerdictKind.TheVariants.{Ok as IsOkay, Fail as IsFail, Temp as IsTemp, Disabled as IsDisabled, Expired as IsExpired}
 use Rattle.da_passdb.specs.declared.database.Passdb.{Passdb}
 use Rattle.da_passdb.specs.declared.login.Login.{Login}
 
--- P holds where progress or an end is a success
+-- P holds where progress or an end is a success, Ok or Expired
 abbrev OnProgress : Type 0 → Progress → Type 0
 OnProgress P p = (p.success ≡ true → P) × (p.checked ≡ true → P)
 
 abbrev OnWalk : Type 0 → Walk → Type 0
 OnWalk P (Asking db kind name checked) = Unit {0}
-OnWalk P (Ended kind p) = kind ≡ IsOkay → P
+OnWalk P (Ended kind p) = has_success kind ≡ true → P
 OnWalk P (Jumped p) = OnProgress P p
 
 abbrev OnMove : Type 0 → Move → Type 0
 OnMove P (GoOn p) = OnProgress P p
 OnMove P (Stop w) = OnWalk P w
 
-is_okay : VerdictKind → Bool
-is_okay IsOkay = true
-is_okay _ = false
-
-not_okay : (k : VerdictKind) → is_okay k ≡ false → k ≡ IsOkay → ⊥
-unfolding is_okay
-not_okay k f e = true≢false (sym (ap is_okay e) ∙ f)
-
 on_ended : (P : Type 0) (p : Progress) → OnProgress P p → OnWalk P (ended p)
-unfolding is_okay
 on_ended P p h = go p.success h.0
   where
-    go : (b : Bool) → (b ≡ true → P) → (cond b IsOkay (cond p.internal IsTemp IsFail)) ≡ IsOkay → P
+    go : (b : Bool) → (b ≡ true → P) → has_success (cond b (cond (is_expired p) IsExpired IsOkay) (cond p.internal IsTemp IsFail)) ≡ true → P
     go true h e = h refl
-    go false h e = absurd (not_okay (cond p.internal IsTemp IsFail) (by_test (λ k. is_okay k ≡ false) p.internal IsTemp IsFail (λ x. refl) (λ x. refl)) e)
+    go false h e = absurd (true≢false (sym e ∙ by_test (λ k. has_success k ≡ false) p.internal IsTemp IsFail (λ x. refl) (λ x. refl)))
 
 on_going : (P : Type 0) (b : Bool) (p : Progress) → OnProgress P p → OnMove P (going_on b p)
 on_going P true p h = h
@@ -107,13 +99,12 @@ on_outcome : (P : Type 0) (jumps : Bool) (db : Passdb) (v : Vars) (o : Outcome) 
 on_outcome P jumps db v o answer p s k h = on_rule P (rule_for db.result_success db.result_failure db.result_internalfail o) (is_success o) jumps (with_outcome db v o answer p) (strict_rule P db s o k) (λ e. k (success_is o e)) ((λ e. h.0 (sym (same_success db v o answer p) ∙ e)), (λ e. h.1 (sym (same_checked db v o answer p) ∙ e)))
 
 on_deny : (P : Type 0) (db : Passdb) (name : Bytes) (p : Progress) (o : Option Answer) → OnProgress P p → OnMove P (deny_move db name p o)
-unfolding is_okay
 on_deny P db name p None h = tt
 on_deny P db name p (Some Unknown) h = h
-on_deny P db name p (Some (Internal why)) h = λ e. absurd (not_okay IsTemp refl e)
-on_deny P db name p (Some (Found stored fields)) h = λ e. absurd (not_okay IsDisabled refl e)
-on_deny P db name p (Some (Passed fields)) h = λ e. absurd (not_okay IsDisabled refl e)
-on_deny P db name p (Some Mismatch) h = λ e. absurd (not_okay IsDisabled refl e)
+on_deny P db name p (Some (Internal why)) h = λ e. absurd (true≢false (sym e))
+on_deny P db name p (Some (Found stored fields)) h = λ e. absurd (true≢false (sym e))
+on_deny P db name p (Some (Passed fields)) h = λ e. absurd (true≢false (sym e))
+on_deny P db name p (Some Mismatch) h = λ e. absurd (true≢false (sym e))
 
 on_answer : (P : Type 0) (jumps : Bool) (db : Passdb) (name : Bytes) (login : Login) (p : Progress) (o : Option Answer) → IsStrict db →
     ((answer : Answer) → o ≡ Some answer → outcome db login false answer ≡ Succeeds → P) → OnProgress P p → OnMove P (answer_move jumps db name login p o)
@@ -170,11 +161,11 @@ done_kind : VerdictKind → Chain → VerdictKind
 done_kind k (Ask db kind user checked) = k
 done_kind k (Done v) = v.kind
 
-chain_success : (P : Type 0) (login : Login) (authz : Bool) (w : Walk) (v : Verdict) → OnWalk P w → chain_of login authz w ≡ Done v → v.kind ≡ IsOkay → P
-unfolding is_done done_kind is_okay
+chain_success : (P : Type 0) (login : Login) (authz : Bool) (w : Walk) (v : Verdict) → OnWalk P w → chain_of login authz w ≡ Done v → has_success v.kind ≡ true → P
+unfolding is_done done_kind
 chain_success P login authz (Asking db kind name checked) v h e k = absurd (true≢false (sym (ap is_done e)))
-chain_success P login authz (Ended kind p) v h e k = h (ap (done_kind IsFail) e ∙ k)
-chain_success P login authz (Jumped p) v h e k = absurd (not_okay IsFail refl (ap (done_kind IsOkay) e ∙ k))
+chain_success P login authz (Ended kind p) v h e k = h (ap (λ c. has_success (done_kind IsFail c)) e ∙ k)
+chain_success P login authz (Jumped p) v h e k = absurd (true≢false (sym k ∙ sym (ap (λ c. has_success (done_kind IsOkay c)) e)))
 
 part_success : (jumps : Bool) (holds : Passdb → Bool) (dbs : List Passdb) (name : Bytes) (login : Login) (answers : Answers) (p : Progress) → AllStrict dbs →
     OnProgress (HasSuccess dbs login answers) p → OnWalk (HasSuccess dbs login answers) (walk jumps (filter holds dbs) name login answers p)
@@ -182,7 +173,7 @@ part_success jumps holds dbs name login answers p s h =
     on_walk (HasSuccess dbs login answers) jumps (filter holds dbs) name login answers p (strict_part holds dbs s)
     (λ db i d answer e o. record { db = db; is_there = among_part holds db dbs i; is_no_deny = d; answer = answer; recorded = e; succeeds = o }) h
 
-masters_success : (dbs : List Passdb) (login : Login) (answers : Answers) (w : Walk) (v : Verdict) → AllStrict dbs → OnWalk (HasSuccess dbs login answers) w → after_masters dbs login answers w ≡ Done v → v.kind ≡ IsOkay → HasSuccess dbs login answers
+masters_success : (dbs : List Passdb) (login : Login) (answers : Answers) (w : Walk) (v : Verdict) → AllStrict dbs → OnWalk (HasSuccess dbs login answers) w → after_masters dbs login answers w ≡ Done v → has_success v.kind ≡ true → HasSuccess dbs login answers
 masters_success dbs login answers (Asking db kind name checked) v s h e k = chain_success _ login false (Asking db kind name checked) v h e k
 masters_success dbs login answers (Ended kind p) v s h e k = chain_success _ login false (Ended kind p) v h e k
 masters_success dbs login answers (Jumped p) v s h e k =
@@ -191,13 +182,13 @@ masters_success dbs login answers (Jumped p) v s h e k =
 nothing_yet : (P : Type 0) → OnProgress P no_progress
 nothing_yet P = (no_true P, no_true P)
 
-for_success : (master : Option Bytes) (dbs : List Passdb) (login : Login) (answers : Answers) (v : Verdict) → AllStrict dbs → chain_for master dbs login answers ≡ Done v → v.kind ≡ IsOkay → HasSuccess dbs login answers
+for_success : (master : Option Bytes) (dbs : List Passdb) (login : Login) (answers : Answers) (v : Verdict) → AllStrict dbs → chain_for master dbs login answers ≡ Done v → has_success v.kind ≡ true → HasSuccess dbs login answers
 for_success None dbs login answers v s e k =
     chain_success _ login false (users_part dbs login answers no_progress) v (part_success false (λ db. not db.master) dbs login.user login answers no_progress s (nothing_yet _)) e k
 for_success (Some master) dbs login answers v s e k =
     masters_success dbs login answers _ v s (part_success true (λ db. db.master) dbs master login answers no_progress s (nothing_yet _)) e k
 
 -- a login that ends well has a recorded answer that is a success
-pub success_has_its_answer : (dbs : List Passdb) (login : Login) (answers : Answers) (v : Verdict) → AllStrict dbs → login_chain dbs login answers ≡ Done v → v.kind ≡ IsOkay → HasSuccess dbs login answers
+pub success_has_its_answer : (dbs : List Passdb) (login : Login) (answers : Answers) (v : Verdict) → AllStrict dbs → login_chain dbs login answers ≡ Done v → has_success v.kind ≡ true → HasSuccess dbs login answers
 unfolding login_chain
 success_has_its_answer dbs login answers v s e k = for_success login.master dbs login answers v s e k

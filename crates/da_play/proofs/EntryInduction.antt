@@ -6,7 +6,7 @@ use Rattle.da_fields.specs.FieldList.{Pairs}
 use Rattle.da_fields.specs.declared.answer.Answer.{Answer}
 use Rattle.da_fields.specs.declared.answer.Answer.TheVariants.{Internal}
 use Rattle.da_fields.specs.declared.answer.Why.TheVariants.{Late as WasLate}
-use Rattle.da_tables.specs.Connections.{client_may, master_may, request_number}
+use Rattle.da_tables.specs.Connections.{client_may, master_may, request_number, with_version}
 use Rattle.da_lines.specs.Grants.{granted}
 use Rattle.da_play.specs.History.{keeps, kept_for, after, after_input, after_stage, before_input, follows_for, follows_from}
 use Rattle.da_request.specs.Requests.{with_decision}
@@ -145,7 +145,7 @@ module _ (settings : Settings) (moment : ℕ) (origin : Tables) (entered : Input
       (λ e. sound_applies (with_request cancelled n tables) (k.cancel tables.requests n q)) (λ e. sound_applies tables q)
 
   sound_client_message : (conn : ℕ) (random : Bytes) (message : ClientMsg) (tables : Tables) → Q tables.requests → IsSound Q (after_client_message settings moment conn random message tables)
-  sound_client_message conn random (Version major minor) tables q = sound_applies (with_connection (λ c. record c { has_version = true }) conn tables) q
+  sound_client_message conn random (Version major minor) tables q = sound_applies (with_connection (with_version minor) conn tables) q
   sound_client_message conn random (Pid pid) tables q = sound_applies (with_connection (λ c. record c { pid = Some pid }) conn tables) q
   sound_client_message conn random (Auth id mechanism parameters resp) tables q =
       sound_new tables (new_request moment conn id random (Authenticates mechanism parameters resp [])) refl (k.login tables.requests conn id random mechanism parameters resp q)
@@ -159,7 +159,7 @@ module _ (settings : Settings) (moment : ℕ) (origin : Tables) (entered : Input
       (λ e. sound_client_message conn random message tables q) (λ e. sound_closes conn tables q)
 
   sound_master_message : (conn : ℕ) (random text : Bytes) (message : MasterMsg) → entered ≡ Line conn text random → master_message text ≡ Some message → Q before.requests → IsSound Q (after_master_message settings moment conn random message before)
-  sound_master_message conn random text (MasterVersion major minor) l m q = sound_applies (with_connection (λ c. record c { has_version = true }) conn before) q
+  sound_master_message conn random text (MasterVersion major minor) l m q = sound_applies (with_connection (with_version minor) conn before) q
   sound_master_message conn random text (LookupRequest id pid client cookie) l m q =
       sound_new before (new_request moment conn id random (LooksUp (granted settings moment before pid client cookie))) refl (k.lookup conn id pid client random cookie text l m q)
   sound_master_message conn random text MasterOther l m q = sound_applies before q

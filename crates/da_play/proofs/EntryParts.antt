@@ -1,5 +1,6 @@
 -- What each part of an entry gives, an entry gives: the parts on all tables, in their order, with the request that continues.
-use Rattle.std.proofs.Common.{◌≡◌, ◌⊎◌, inl, inr, refl, sym, ◌∙◌, ap, subst, Option, Some, None, List, [], ◌∷◌, ◌++◌, ℕ, suc, true, false, length, append_assoc, append-nil, option_map, option_and_then, true≢false, not, ◌&&◌, is_some}
+use Rattle.std.proofs.Common.{◌≡◌, ◌⊎◌, inl, inr, refl, sym, ◌∙◌, ap, subst, Option, Some, None, List, [], ◌∷◌, ◌++◌, ℕ, suc, true, false, length, append_assoc, append-nil, option_map, option_and_then, true≢false, not, ◌&&◌, is_some, ◌==◌}
+use Rattle.std.proofs.lemmas.Option.{same_Some}
 use Rattle.da_tables.proofs.Cases.{by_test, and_first, and_second, not_true}
 use Rattle.std.specs.List.{list_any}
 use Rattle.da_play.proofs.EntryInduction.{IsUndecidedAt, ContinuedUndecided, still_undecided}
@@ -17,7 +18,7 @@ use Rattle.da_msgs.specs.declared.client.ClientMsg.TheVariants.{Version, Pid, Au
 use Rattle.da_msgs.specs.declared.master.MasterMsg.{MasterMsg}
 use Rattle.da_msgs.specs.declared.master.MasterMsg.TheVariants.{Version as MasterVersion, Request as LookupRequest, Other as MasterOther}
 use Rattle.da_keys.specs.Keys.{with_key}
-use Rattle.da_tables.specs.Connections.{client_may, has_pid, master_may, request_number}
+use Rattle.da_tables.specs.Connections.{client_may, has_pid, master_may, request_number, has_version, may_tell_version}
 use Rattle.da_lines.specs.Grants.{granted}
 use Rattle.da_play.specs.History.{after, after_input, after_stage, after_continued, before_input, before_replies, keeps, kept_for, follows_for, follows_from, with_handed_out}
 use Rattle.da_request.specs.Requests.{with_decision}
@@ -108,8 +109,22 @@ abbrev pub TellsPid : Tables → (Connection → Connection) → Type 0
 TellsPid before change =
     ((c : Connection) → (change c).pid ≡ c.pid) ⊎ ((pid : ℕ) × ((c : Connection) → (change c).pid ≡ Some pid) × (list_any (has_pid pid) before.connections ≡ false))
 
+-- the connection of this number keeps the version that it sent
+abbrev pub KeepsVersion : Tables → ℕ → (Connection → Connection) → Type 0
+KeepsVersion before conn change = (c : Connection) → nth before.connections conn ≡ Some c → (m : ℕ) → c.minor ≡ Some m → (change c).minor ≡ Some m
+
+-- what a connection tells of itself: its version, where it sent none before, or its process number
+pub record TellsItself (before : Tables) (conn : ℕ) (change : Connection → Connection) : Type 0 where
+  pub pid : TellsPid before change
+  pub version : KeepsVersion before conn change
+
+-- a connection that may tell its version has sent none
+unsent : (before : Tables) (conn major minor : ℕ) (c : Connection) → nth before.connections conn ≡ Some c → may_tell_version major c ≡ true → KeepsVersion before conn (with_version minor)
+unsent before conn major minor c there may d at m told =
+    absurd (true≢false (sym (ap (λ (x : Connection). has_version x) (same_Some c d (sym there ∙ at)) ∙ ap is_some told) ∙ not_true (has_version c) (and_first (not (has_version c)) (major == 1) may)))
+
 abbrev opened : ConnKind → Bytes → Tables → Tables
-opened kind random tables = record tables { connections = tables.connections ++ record { kind = kind; cookie = hex random; has_version = false; pid = None; is_open = true } ∷ [] }
+opened kind random tables = record tables { connections = tables.connections ++ record { kind = kind; cookie = hex random; minor = None; pid = None; is_open = true } ∷ [] }
 
 abbrev pub recorded : Settings → ℕ → Tables → ℕ → QueryRow → Answer → Tables
 recorded settings moment tables query a given = with_query (answered_by settings moment (nth tables.requests a.request) (recorded_answer a.question.kind given)) query tables
@@ -179,7 +194,7 @@ told_queries settings moment origin entered query given t = queries_before setti
 -- the input's own effect gives P, a fact on the tables and the request that continues
 pub record InputParts (settings : Settings) (moment : ℕ) (before : Tables) (entered : Input) (P : Tables → Option ℕ → Type 0) : Type 0 where
   pub opens : (kind : ConnKind) (random : Bytes) → entered ≡ Opened kind random → P before None → P (opened kind random before) None
-  pub tells : (conn : ℕ) (change : Connection → Connection) → ((c : Connection) → IsSameConnection c (change c)) → TellsPid before change → P before None →
+  pub tells : (conn : ℕ) (change : Connection → Connection) → ((c : Connection) → IsSameConnection c (change c)) → TellsItself before conn change → P before None →
       P (with_connection change conn before) None
   pub ends : (conn : ℕ) → Ends before entered conn → P before None → P (with_end conn before) None
   pub cancels : (n : ℕ) → passes_option (is_cancellable settings before n) (nth before.requests n) ≡ true → P before None → P (with_request cancelled n before) None
@@ -256,14 +271,18 @@ module _ (settings : Settings) (moment : ℕ) (before : Tables) (entered : Input
 
   sound_client_message : (conn : ℕ) (random : Bytes) (message : ClientMsg) → ReadsClient before entered conn random message → P before None →
       IsSound (after_client_message settings moment conn random message before)
-  sound_client_message conn random (Version major minor) m p = quiet _ (k.tells conn with_version (λ c. record { kind = refl; cookie = refl; is_open = refl }) (inl (λ c. refl)) p)
+  sound_client_message conn random (Version major minor) m p = quiet _ (k.tells conn (with_version minor) (λ c. record { kind = refl; cookie = refl; is_open = refl })
+      (record { pid = inl (λ c. refl); version = unsent before conn major minor m.connection m.is_there m.may }) p)
   sound_client_message conn random (Pid pid) m p = quiet _ (k.tells conn (with_pid pid) (λ c. record { kind = refl; cookie = refl; is_open = refl })
-      (inr (
-        pid,
-        (λ c. refl),
-        not_true (list_any (has_pid pid) before.connections)
-            (and_second (m.connection.has_version && not (is_some m.connection.pid)) (not (list_any (has_pid pid) before.connections)) m.may),
-      )) p)
+      (record {
+        pid = inr (
+          pid,
+          (λ c. refl),
+          not_true (list_any (has_pid pid) before.connections)
+              (and_second (has_version m.connection && not (is_some m.connection.pid)) (not (list_any (has_pid pid) before.connections)) m.may),
+        );
+        version = λ c at k told. told;
+      }) p)
   sound_client_message conn random (Auth id mech params resp) m p =
       sound_new conn id random (Authenticates mech params resp [])
       (record { connection = m.connection; is_there = m.is_there; is_connected = m.is_connected; made = inl (mech, params, resp, m, refl) }) p
@@ -273,7 +292,8 @@ module _ (settings : Settings) (moment : ℕ) (before : Tables) (entered : Input
 
   sound_master_message : (conn : ℕ) (random : Bytes) (message : MasterMsg) → ReadsMaster before entered conn random message → P before None →
       IsSound (after_master_message settings moment conn random message before)
-  sound_master_message conn random (MasterVersion major minor) m p = quiet _ (k.tells conn with_version (λ c. record { kind = refl; cookie = refl; is_open = refl }) (inl (λ c. refl)) p)
+  sound_master_message conn random (MasterVersion major minor) m p = quiet _ (k.tells conn (with_version minor) (λ c. record { kind = refl; cookie = refl; is_open = refl })
+      (record { pid = inl (λ c. refl); version = unsent before conn major minor m.connection m.is_there m.may }) p)
   sound_master_message conn random (LookupRequest id pid client cookie) m p =
       sound_new conn id random (LooksUp (granted settings moment before pid client cookie))
       (record { connection = m.connection; is_there = m.is_there; is_connected = m.is_connected; made = inr (pid, client, cookie, m, refl) }) p

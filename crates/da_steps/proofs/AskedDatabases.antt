@@ -1,5 +1,5 @@
 -- A request asks a database of its own that has no answer yet.
-use Rattle.std.proofs.Common.{◌≡◌, refl, sym, ◌∙◌, ap, subst, Option, Some, None, List, [], ◌∷◌, ◌++◌, ℕ, ◌+◌, ◌≤◌, Bool, true, false, cond, not, ◌&&◌, map, filter, is_some, true≢false, arith, eq-eqb, ◌==◌, ◌⊎◌, inl, inr}
+use Rattle.std.proofs.Common.{◌≡◌, refl, sym, ◌∙◌, ap, subst, Option, Some, None, List, [], ◌∷◌, ◌++◌, ℕ, ◌+◌, ◌≤◌, Bool, true, false, cond, not, ◌&&◌, map, filter, is_some, true≢false, arith, eq-eqb, ◌==◌, ◌⊎◌, inl, inr, if◌then◌else◌}
 use Rattle.std.proofs.lemmas.Option.{none-some, same_Some}
 use Rattle.da_tables.proofs.Cases.{by_test}
 use Rattle.da_base.specs.Words.{Bytes, is_empty, count_where}
@@ -12,7 +12,7 @@ use Rattle.da_fields.specs.declared.outcome.Rule.{Rule}
 use Rattle.da_fields.specs.declared.outcome.Rule.TheVariants.{ReturnOk, ReturnFail, Return, ContinueOk, ContinueFail, Continue}
 use Rattle.da_fields.specs.declared.said.Said.{Said}
 use Rattle.da_fields.specs.declared.said.Said.TheVariants.{Challenge, Need, Proof as Proven, Bad}
-use Rattle.da_request.specs.Attempts.{Attempt, mechanism_says, names, opening, opening_named, opening_said, opening_by, stage_from, failure, after_proof, with_credentials, after_verdict, after_chain, attempt_stage}
+use Rattle.da_request.specs.Attempts.{Attempt, mechanism_says, names, opening, opening_named, opening_said, opening_by, stage_from, after_proof, with_credentials, after_verdict, after_chain, attempt_stage, decided_by, has_proof, has_success}
 use Rattle.da_request.specs.declared.openings.Opening.{Opening}
 use Rattle.da_request.specs.declared.openings.Opening.TheVariants.{Immediate, LogsIn}
 use Rattle.da_request.specs.Requests.{lookup_stage, body_stage, request_stage, question_in}
@@ -34,7 +34,7 @@ use Rattle.da_passdb.specs.declared.chain.Chain.{Chain}
 use Rattle.da_passdb.specs.declared.chain.Chain.TheVariants.{Ask, Done}
 use Rattle.da_passdb.specs.declared.chain.Verdict.{Verdict}
 use Rattle.da_passdb.specs.declared.chain.VerdictKind.{VerdictKind}
-use Rattle.da_passdb.specs.declared.chain.VerdictKind.TheVariants.{Ok as IsOkay, Fail as IsFail, Temp as IsTemp, Disabled as IsDisabled}
+use Rattle.da_passdb.specs.declared.chain.VerdictKind.TheVariants.{Ok as IsOkay, Fail as IsFail, Temp as IsTemp, Disabled as IsDisabled, Expired as IsExpired}
 use Rattle.da_passdb.specs.declared.database.Passdb.{Passdb}
 use Rattle.da_schemes.specs.Stored.{StoredPassword}
 use Rattle.da_userdb.specs.UserChain.{UserMove, UserGoOn, UserStop, user_end, by_user_rule, with_user_outcome, after_user_outcome, user_answer_move, prefetch_move, user_move, is_user_skipped, is_prefetch, user_continued, user_walk, user_chain, user_outcome}
@@ -326,32 +326,33 @@ asked_question (Asks p) q e = ap (λ (x : Question). Some x.db) (same_Some p q e
 asked_question (Awaits text) q e = absurd (none-some q e)
 asked_question (Decided d) q e = absurd (none-some q e)
 
-pub failure_quiet : (v : Verdict) (reason : Option Bytes) → asked_stage (failure v reason) ≡ None
+pub decided_quiet : (k : VerdictKind) (v : Verdict) (last : Option Bytes) → asked_stage (decided_by k v last) ≡ None
 unfolding asked_stage
-failure_quiet v None = refl
-failure_quiet v (Some reason) = refl
+decided_quiet IsOkay v last = refl
+decided_quiet IsFail v last = refl
+decided_quiet IsTemp v last = refl
+decided_quiet IsDisabled v last = refl
+decided_quiet IsExpired v last = refl
 
 pub proof_quiet : (v : Verdict) (s : Said) → asked_stage (after_proof v s) ≡ None
 unfolding asked_stage
 proof_quiet v (Challenge text) = refl
 proof_quiet v (Need name authzid password) = refl
-proof_quiet v (Proven true last) = refl
+proof_quiet v (Proven true last) = decided_quiet v.kind v last
 proof_quiet v (Proven false last) = refl
 proof_quiet v Bad = refl
 
 pub credentials_quiet : (m : Mech) (settings : Settings) (a : Attempt) (v : Verdict) (o : Option StoredPassword) → asked_stage (with_credentials m settings a v o) ≡ None
-credentials_quiet m settings a v None = failure_quiet (record v { kind = IsFail }) None
+unfolding asked_stage
+credentials_quiet m settings a v None = refl
 credentials_quiet m settings a v (Some stored) = proof_quiet v (mechanism_says m settings a a.messages (Some stored))
 
 pub verdict_quiet : (k : VerdictKind) (m : Mech) (settings : Settings) (a : Attempt) (v : Verdict) → asked_stage (after_verdict k m settings a v) ≡ None
-unfolding asked_stage
-verdict_quiet IsOkay Plain settings a v = refl
-verdict_quiet IsOkay LoginMech settings a v = refl
-verdict_quiet IsOkay CramMd5 settings a v = credentials_quiet CramMd5 settings a v v.credentials
-verdict_quiet IsOkay ScramSha256 settings a v = credentials_quiet ScramSha256 settings a v v.credentials
-verdict_quiet IsFail m settings a v = failure_quiet v None
-verdict_quiet IsTemp m settings a v = failure_quiet v None
-verdict_quiet IsDisabled m settings a v = failure_quiet v None
+verdict_quiet k m settings a v = go (has_success k && has_proof m)
+  where
+    go : (b : Bool) → asked_stage (if b then with_credentials m settings a v v.credentials else decided_by k v None) ≡ None
+    go true = credentials_quiet m settings a v v.credentials
+    go false = decided_quiet k v None
 
 pub after_chain_asks : (m : Mech) (settings : Settings) (a : Attempt) (c : Chain) → asked_stage (after_chain m settings a c) ≡ asked_chain c
 unfolding asked_stage asked_chain

@@ -64,16 +64,16 @@ module _ {A : Type 0} (S : A → A → Type 0) (same : (x : A) → S x x) (trans
 -- ---- connections
 
 same_connection : (c : Connection) → ConnectionStands c c
-same_connection c = record { kind = refl; cookie = refl; is_ended = λ e. e }
+same_connection c = record { kind = refl; cookie = refl; minor = λ m e. e; is_ended = λ e. e }
 
 connection_later : (a b c : Connection) → ConnectionStands a b → ConnectionStands b c → ConnectionStands a c
-connection_later a b c f g = record { kind = g.kind ∙ f.kind; cookie = g.cookie ∙ f.cookie; is_ended = λ e. f.is_ended (g.is_ended e) }
+connection_later a b c f g = record { kind = g.kind ∙ f.kind; cookie = g.cookie ∙ f.cookie; minor = λ m e. g.minor m (f.minor m e); is_ended = λ e. f.is_ended (g.is_ended e) }
 
-told_stands : (c d : Connection) → IsSameConnection c d → ConnectionStands c d
-told_stands c d s = record { kind = s.kind; cookie = s.cookie; is_ended = λ e. sym s.is_open ∙ e }
+told_stands : (c d : Connection) → IsSameConnection c d → ((m : ℕ) → c.minor ≡ Some m → d.minor ≡ Some m) → ConnectionStands c d
+told_stands c d s v = record { kind = s.kind; cookie = s.cookie; minor = v; is_ended = λ e. sym s.is_open ∙ e }
 
 closed_stands : (c : Connection) → ConnectionStands c (closed c)
-closed_stands c = record { kind = refl; cookie = refl; is_ended = λ e. absurd (true≢false (sym e)) }
+closed_stands c = record { kind = refl; cookie = refl; minor = λ m e. e; is_ended = λ e. absurd (true≢false (sym e)) }
 
 -- ---- requests
 
@@ -281,7 +281,7 @@ module _ (settings : Settings) (moment : ℕ) (origin before : Tables) (entered 
   pub input_stands : InputParts settings moment before entered P
   input_stands = record {
     opens = λ kind random l p. with_connections origin before p _ (longer_rows ConnectionStands same_connection connection_later before.connections _);
-    tells = λ conn change h told p. with_connections origin before p _ (changed_connections change (λ c. told_stands c (change c) (h c)) before.connections conn);
+    tells = λ conn change h told p. with_connections origin before p _ (changed_rows ConnectionStands same_connection connection_later change before.connections conn (λ c at. told_stands c (change c) (h c) (told.version c at)));
     ends = λ conn e p. end_stands conn p;
     cancels = λ n e p. with_requests origin before p _ (changed_requests cancelled before.requests n (λ r is. cancelled_stands r));
     texts = λ conn id random text m r is w p. with_requests origin before p _ (changed_requests (with_text text) before.requests _
