@@ -1,8 +1,10 @@
+pub mod CodeLaw
 pub mod ComparisonLaw
 pub mod Decisions
 pub mod DelayLaw
 pub mod DueLaw
 pub mod Entries
+pub mod FreshLaw
 pub mod GrantLaw
 pub mod GrantStands
 pub mod GrantedOnce
@@ -19,3 +21,4 @@ pub mod RunEnds
 pub mod Silent
 pub mod StageLaw
 pub mod SuccessLaw
+pub mod TableLaw

@@ -39,7 +39,7 @@ use Rattle.da_userdb.specs.declared.database.UserChain.TheVariants.{Ask as AskUs
 use Rattle.da_request.specs.Requests.{attempt_by, attempt_in}
 
 -- what a stage decides: an OK, a USER, or neither
-tells_ok : Stage → Bool
+pub tells_ok : Stage → Bool
 tells_ok (Decided (Success user fields last)) = true
 tells_ok _ = false
 
