@@ -16,7 +16,6 @@ use Rattle.da_fields.specs.declared.said.Said.TheVariants.{Challenge, Need, Proo
 use Rattle.da_names.specs.declared.variables.Vars.{Vars}
 use Rattle.da_schemes.specs.Stored.{StoredPassword}
 use Rattle.da_msgs.specs.declared.kinds.Mech.{Mech}
-use Rattle.da_msgs.specs.declared.kinds.Mech.TheVariants.{Plain, Login as LoginMech, CramMd5, ScramSha256}
 use Rattle.da_passdb.specs.LoginChain.{Walk, Move, Asking, Ended, Jumped, GoOn, Stop, move, by_rule, going_on, after_outcome, with_outcome, deny_move, answer_move, is_passed_over, is_unaskable, walk, continued, chain_of, chain_for, after_masters, login_chain, users_part, master_databases, user_databases, no_progress}
 use Rattle.da_passdb.specs.declared.progress.Progress.{Progress}
 use Rattle.da_passdb.specs.Outcomes.{outcome, is_plaintext_proof}

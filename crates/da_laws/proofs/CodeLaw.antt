@@ -1,9 +1,9 @@
 -- Expired passwords let nobody in, and codes are told to those who know them.
-use Rattle.std.proofs.Common.{◌≡◌, refl, sym, ◌∙◌, ap, Option, Some, None, List, [], ◌∷◌, ℕ, ◌≤◌, ◌<◌, ◌==◌, Bool, true, false, if◌then◌else◌, ◌&&◌, nat_le, true≢false, arith}
+use Rattle.std.proofs.Common.{◌≡◌, refl, sym, ◌∙◌, ap, Option, Some, None, [], ◌∷◌, ℕ, ◌≤◌, ◌<◌, ◌==◌, Bool, true, false, if◌then◌else◌, nat_le, true≢false, arith}
 use Rattle.std.proofs.lemmas.Bool.{eqb-true}
 use Rattle.std.proofs.lemmas.Bool.Decides.{nat_tests}
 use Rattle.std.proofs.lemmas.Option.{same_Some}
-use Rattle.da_base.specs.Words.{Bytes, nth, passes_option}
+use Rattle.da_base.specs.Words.{nth, passes_option}
 use Rattle.da_laws.proofs.GrantStands.{grants_stand}
 use Rattle.da_laws.proofs.LineLaw.{replies_are_lines}
 use Rattle.da_laws.proofs.OkLaw.{tells_ok, verdict_okay}

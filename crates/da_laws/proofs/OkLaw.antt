@@ -23,7 +23,6 @@ use Rattle.da_request.specs.declared.stages.Stage.{Stage}
 use Rattle.da_request.specs.declared.stages.Stage.TheVariants.{Awaits, Asks, Decided}
 use Rattle.da_msgs.specs.Replies.{mechanism_named}
 use Rattle.da_msgs.specs.declared.kinds.Mech.{Mech}
-use Rattle.da_msgs.specs.declared.kinds.Mech.TheVariants.{Plain, Login as LoginMech, CramMd5, ScramSha256}
 use Rattle.da_passdb.specs.LoginChain.{login_chain}
 use Rattle.da_passdb.specs.declared.chain.Chain.{Chain}
 use Rattle.da_passdb.specs.declared.chain.Chain.TheVariants.{Ask, Done}

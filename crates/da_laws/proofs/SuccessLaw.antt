@@ -19,7 +19,7 @@ use Rattle.da_passdb.specs.declared.chain.Chain.{Chain}
 use Rattle.da_passdb.specs.declared.chain.Chain.TheVariants.{Ask, Done}
 use Rattle.da_passdb.specs.declared.chain.Verdict.{Verdict}
 use Rattle.da_passdb.specs.declared.chain.VerdictKind.{VerdictKind}
-use Rattle.da_passdb.specs.declared.chain.VerdictKind.TheVariants.{Ok as IsOkay, Fail as IsFail, Temp as IsTemp, Disabled as IsDisabled, Expired as IsExpired}
+use Rattle.da_passdb.specs.declared.chain.VerdictKind.TheVariants.{Ok as IsOkay, Fail as IsFail, Temp as IsTemp, Expired as IsExpired}
 use Rattle.da_passdb.specs.declared.database.Passdb.{Passdb}
 use Rattle.da_passdb.specs.declared.login.Login.{Login}
 

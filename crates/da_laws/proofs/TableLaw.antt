@@ -11,7 +11,7 @@ use Rattle.da_laws.proofs.SuccessLaw.{success_has_its_answer}
 use Rattle.da_laws.specs.SuccessLaws.{HasSuccess}
 use Rattle.da_laws.specs.CodeLaws.{Applies, CodesAreOfTheTable, EndsWith, ExpiredHasItsAnswer, IsBadWithStored, IsFirst, IsToldExpired, MakesNoLogin, SaysWith, is_message, table}
 use Rattle.da_msgs.specs.declared.code.Code.{Code}
-use Rattle.da_msgs.specs.declared.code.Code.TheVariants.{Temp, Disabled, Expired, Timeout, Protocol, Authz, Credentials}
+use Rattle.da_msgs.specs.declared.code.Code.TheVariants.{Temp, Disabled, Expired, Timeout, Protocol}
 use Rattle.da_msgs.specs.declared.kinds.Mech.{Mech}
 use Rattle.da_passdb.specs.LoginChain.{login_chain}
 use Rattle.da_passdb.specs.declared.chain.Chain.{Chain}
@@ -303,9 +303,10 @@ lookup_first settings r subject UserFailed = tt
 
 stage_first : (settings : Settings) (r : Request) → r.is_timed_out ≡ false → (b : Body) → r.body ≡ b → OnFailure settings r (request_stage settings r)
 unfolding request_stage OnFailure
-stage_first settings r in_time (Authenticates mech params resp texts) is =
-    let at : attempt_of settings r ≡ Some _ = ap (attempt_in settings r) is in
-    subst (λ (s : Stage). OnFailure settings r s) (sym (stage_is_attempt's settings r _ at)) (attempt_first settings r in_time _ at)
+stage_first settings r in_time (Authenticates mech params resp texts) is = go _ (ap (attempt_in settings r) is)
+  where
+    go : (a : Attempt) → attempt_of settings r ≡ Some a → OnFailure settings r (body_stage settings r r.body)
+    go a at = subst (λ (s : Stage). OnFailure settings r s) (sym (stage_is_attempt's settings r a at)) (attempt_first settings r in_time a at)
 stage_first settings r in_time (LooksUp None) is = subst (λ (b : Body). OnFailure settings r (body_stage settings r b)) (sym is) tt
 stage_first settings r in_time (LooksUp (Some grant)) is =
     subst (λ (b : Body). OnFailure settings r (body_stage settings r b)) (sym is) (lookup_first settings r grant.lookup (user_chain settings.userdb grant.lookup r.answers))

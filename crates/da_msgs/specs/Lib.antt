@@ -4,3 +4,4 @@ pub mod ClientSpelling
 pub mod MasterMessages
 pub mod MasterSpelling
 pub mod Replies
+pub mod ToldCodes

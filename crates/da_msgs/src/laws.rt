@@ -1,4 +1,4 @@
-// What holds of the lines of clients and masters.
+// What holds of the lines of clients and masters, and of failures.
 
 ghost use Rattle.std.specs.Prelude.{◌≡◌, Some};
 ghost use Rattle.da_base.specs.Words.{Bytes};
@@ -8,6 +8,13 @@ ghost use Rattle.da_msgs.specs.ClientMessages.{client_message};
 ghost use Rattle.da_msgs.specs.ClientSpelling.{SpellsClient};
 ghost use Rattle.da_msgs.specs.MasterMessages.{master_message};
 ghost use Rattle.da_msgs.specs.MasterSpelling.{SpellsMaster};
+ghost use Rattle.da_msgs.specs.ToldCodes.{TellsItsCode};
+
+/// The line of a failure with a code tells that code once and no other, whatever its user and its reason are, and one
+/// without a code tells none.
+pub fn a_failure_tells_its_code()
+    ensures { TellsItsCode }
+{}
 
 /// A client's line is read as a message exactly where it spells it.
 pub fn a_client_line_is_read_as_it_spells()

@@ -17,7 +17,7 @@ pub use code::Code;
 pub use greetings::{greeting, handshake};
 pub use kinds::{ConnKind, Mech};
 pub use laws::{
-    a_client_line_is_read_as_it_spells, a_client_line_spells_one_message,
+    a_client_line_is_read_as_it_spells, a_client_line_spells_one_message, a_failure_tells_its_code,
     a_master_line_is_read_as_it_spells, a_master_line_spells_one_message,
 };
 pub use master::{MasterMsg, MasterReply};

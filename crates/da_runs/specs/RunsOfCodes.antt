@@ -1,8 +1,8 @@
 -- Worked runs: expired passwords, and the codes of failures.
-use Rattle.std.specs.Prelude.{ℕ, List, [], ◌∷◌, ◌++◌, codes}
+use Rattle.std.specs.Prelude.{List, [], ◌∷◌, ◌++◌, codes}
 use Rattle.da_base.specs.Words.{Bytes}
 use Rattle.da_fields.specs.declared.answer.Answer.{Answer}
-use Rattle.da_fields.specs.declared.answer.Answer.TheVariants.{Found, Unknown, Internal}
+use Rattle.da_fields.specs.declared.answer.Answer.TheVariants.{Found, Internal}
 use Rattle.da_fields.specs.declared.answer.Why.TheVariants.{Said}
 use Rattle.da_msgs.specs.declared.kinds.ConnKind.TheVariants.{Client, Master}
 use Rattle.da_play.specs.Play.{Event}

@@ -26,7 +26,6 @@ use Rattle.da_request.specs.declared.stages.Stage.{Stage}
 use Rattle.da_request.specs.declared.stages.Stage.TheVariants.{Awaits, Asks, Decided}
 use Rattle.da_msgs.specs.Replies.{mechanism_named}
 use Rattle.da_msgs.specs.declared.kinds.Mech.{Mech}
-use Rattle.da_msgs.specs.declared.kinds.Mech.TheVariants.{Plain, Login as LoginMech, CramMd5, ScramSha256}
 use Rattle.da_passdb.specs.LoginChain.{no_progress, Walk, Asking, Ended, Jumped, Move, GoOn, Stop, going_on, by_rule, deny_move, answer_move, move, is_passed_over, is_unaskable, continued, walk, chain_of, users_part, after_masters, chain_for, login_chain}
 use Rattle.da_passdb.specs.declared.progress.Progress.{Progress}
 use Rattle.da_passdb.specs.Outcomes.{is_plaintext_proof, outcome}
