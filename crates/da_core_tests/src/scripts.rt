@@ -2,8 +2,8 @@
 
 use crate::both::are_played_alike;
 use da_scripts::{
-    Case, codes, connections, databases, delays, expired, handovers, limits, lost_queries, mechanisms, the_cache,
-    whole_paths,
+    Case, codes, connections, databases, delays, expired, handovers, limits, lost_queries,
+    mechanisms, the_cache, whole_paths,
 };
 use std::alloc::{AllocError, Global};
 use std::test::Fail;

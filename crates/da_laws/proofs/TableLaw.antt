@@ -103,7 +103,6 @@ same_attempt settings r a b at other = same_Some b a (sym other ∙ at)
 
 module _ (settings : Settings) (r : Request) (in_time : r.is_timed_out ≡ false) (a : Attempt) (at : attempt_of settings r ≡ Some a)
     (mech : Mech) (login : Login) (opens : opening settings a ≡ LogsIn mech login) (v : Verdict) (ends : login_chain settings.passdb login a.answers ≡ Done v) where
-
   ended : EndsWith settings r mech v
   ended = record { attempt = a; attempts = at; login = login; opens = opens; ends = ends }
 
@@ -123,8 +122,7 @@ module _ (settings : Settings) (r : Request) (in_time : r.is_timed_out ≡ false
   same_says : (m : Mech) (w : Verdict) (said : Said) → m ≡ mech → w ≡ v → SaysWith settings r m w said →
       (stored : StoredPassword) × (v.credentials ≡ Some stored) × (mechanism_says mech settings a a.messages (Some stored) ≡ said)
   same_says m w said m_is w_is x =
-      let here : x.attempt ≡ a = same_attempt settings r a x.attempt at x.attempts in
-      (
+      let here : x.attempt ≡ a = same_attempt settings r a x.attempt at x.attempts in (
         x.stored,
         ap (λ (u : Verdict). u.credentials) (sym w_is) ∙ x.is_stored,
         ap₂ (λ (n : Mech) (b : Attempt). mechanism_says n settings b b.messages (Some x.stored)) (sym m_is) (sym here) ∙ x.says,
@@ -144,8 +142,7 @@ module _ (settings : Settings) (r : Request) (in_time : r.is_timed_out ≡ false
       (has_success v.kind ≡ true) × (has_proof mech ≡ true) × (said : Said) × (is_message said ≡ false) × (stored : StoredPassword) × (v.credentials ≡ Some stored)
       × (mechanism_says mech settings a a.messages (Some stored) ≡ said)
   bad_proof x =
-      let same : (x.mech ≡ mech) × (x.verdict ≡ v) = same_end x.mech x.verdict x.ends in
-      (
+      let same : (x.mech ≡ mech) × (x.verdict ≡ v) = same_end x.mech x.verdict x.ends in (
         ap (λ (u : Verdict). has_success u.kind) (sym same.1) ∙ x.is_success,
         ap has_proof (sym same.0) ∙ x.is_by_proof,
         x.said,
@@ -344,11 +341,10 @@ unfolding login_of
 expired_has_its_answer settings r user authz temp disabled reason strict e =
     let told : IsToldExpired settings r =
     first_applies (Applies settings r authz temp disabled) table Expired (codes_are_of_the_table settings r user authz temp disabled Expired reason e) in
-    let ends : EndsWith settings r told.mech told.verdict = told.ends in
-    (
+    let ends : EndsWith settings r told.mech told.verdict = told.ends in (
       ends.login,
       ap (option_and_then (λ a. login_in (opening settings a))) ends.attempts ∙ ap login_in ends.opens,
       subst (λ (answers : Answers). HasSuccess settings.passdb ends.login answers) (own_answers settings r r.body ends.attempt ends.attempts)
-      (success_has_its_answer settings.passdb ends.login ends.attempt.answers told.verdict strict ends.ends (ap has_success told.is_expired)),
+          (success_has_its_answer settings.passdb ends.login ends.attempt.answers told.verdict strict ends.ends (ap has_success told.is_expired)),
       told,
     )

@@ -120,10 +120,8 @@ fn decided_by(alloc: Global, verdict: Verdict, last: Option<Text>) -> Result<Sta
 {
     match verdict.kind {
         VerdictKind::Ok => Ok(success(verdict, last)),
-        VerdictKind::Fail
-        | VerdictKind::Temp
-        | VerdictKind::Disabled
-        | VerdictKind::Expired => failure(alloc, verdict),
+        VerdictKind::Fail | VerdictKind::Temp | VerdictKind::Disabled | VerdictKind::Expired =>
+            failure(alloc, verdict),
     }
 }
 

@@ -44,7 +44,8 @@ fn verdict_code(kind: VerdictKind, authz: bool) -> Code
 
 // The code of a failure that tells of nothing but a wrong login.
 fn plain_code(authz: bool) -> Code
-    ensures { result ≡ failure_code (FailedBy.Verdict VerdictKind.Fail) authz }
+    ensures fail { result ≡ failure_code (FailedBy.Verdict VerdictKind.Fail) authz }
+    ensures okay { result ≡ failure_code (FailedBy.Verdict VerdictKind.Ok) authz }
 {
     if authz {
         Code::Authz

@@ -71,7 +71,7 @@ impl Connection {
         ensures { result ≡ knows_codes self.now }
     {
         match self.minor {
-            Some(minor) => minor >= 2,
+            Some(minor) => 2 <= minor,
             None => false,
         }
     }
