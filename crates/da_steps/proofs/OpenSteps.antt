@@ -103,7 +103,7 @@ module _ (settings : Settings) (moment : ℕ) (before : Tables) where
       (λ e. leaves (with_request cancelled n before) None (λ conn. refl)) (λ e. leaves before None (λ conn. refl))
 
   leaves_client_message : (c : ℕ) (random : Bytes) (message : ClientMsg) → Leaves (after_client_message settings moment c random message before)
-  leaves_client_message c random (Version major minor) = leaves (with_connection with_version c before) None (told_open with_version (λ x. refl) before.connections c)
+  leaves_client_message c random (Version major minor) = leaves (with_connection (with_version minor) c before) None (told_open (with_version minor) (λ x. refl) before.connections c)
   leaves_client_message c random (Pid pid) = leaves (with_connection (with_pid pid) c before) None (told_open (with_pid pid) (λ x. refl) before.connections c)
   leaves_client_message c random (Auth id mech params resp) = λ conn. sym (and_true (is_open_in before conn))
   leaves_client_message c random (Cont id text) = leaves_continues (request_number before c id) text
@@ -111,7 +111,7 @@ module _ (settings : Settings) (moment : ℕ) (before : Tables) where
   leaves_client_message c random Other = leaves before None (λ conn. refl)
 
   leaves_master_message : (c : ℕ) (random : Bytes) (message : MasterMsg) → Leaves (after_master_message settings moment c random message before)
-  leaves_master_message c random (MasterVersion major minor) = leaves (with_connection with_version c before) None (told_open with_version (λ x. refl) before.connections c)
+  leaves_master_message c random (MasterVersion major minor) = leaves (with_connection (with_version minor) c before) None (told_open (with_version minor) (λ x. refl) before.connections c)
   leaves_master_message c random (LookupRequest id pid client cookie) = λ conn. sym (and_true (is_open_in before conn))
   leaves_master_message c random MasterOther = leaves before None (λ conn. refl)
 
