@@ -1,5 +1,5 @@
 -- The stage of an attempt depends on the attempt alone, and on its answers by their databases.
-use Rattle.std.proofs.Common.{◌≡◌, refl, sym, ◌∙◌, ap, Option, Some, None, List, [], ◌∷◌, ℕ, Bool, ◌&&◌, if◌then◌else◌}
+use Rattle.std.proofs.Common.{◌≡◌, refl, sym, ◌∙◌, ap, Option, Some, None, List, [], ◌∷◌, ℕ, Bool, true, false, ◌&&◌, if◌then◌else◌}
 use Rattle.std.proofs.lemmas.Option.{none-some, same_Some}
 use Rattle.da_base.specs.Words.{Bytes}
 use Rattle.da_fields.specs.Answers.{Answers, answer_from}
