@@ -33,26 +33,21 @@ pub fn final_line(
         } => {
             let user = optional_copy(alloc, user)?;
             let reason = optional_copy(alloc, reason)?;
-            let (authz, temp, disabled) = (*authz, *temp, *disabled);
             let code = if knows_codes { Some(*code) } else { None };
             printed(
                 alloc,
                 &Reply::Fail {
                     id,
                     user,
-                    authz,
-                    temp,
-                    disabled,
+                    authz: *authz,
+                    temp: *temp,
+                    disabled: *disabled,
                     code,
                     reason,
                 },
             )
         }
-        Decision::UserGiven { user, fields } => {
-            let user = user.copy(alloc)?;
-            let fields = fields.copy(alloc)?;
-            printed_to_master(alloc, &MasterReply::User { id, user, fields })
-        }
+        Decision::UserGiven { user, fields } => user_line(alloc, id, user, fields),
         Decision::UserUnknown => printed_to_master(alloc, &MasterReply::NotFound { id }),
         Decision::UserFailure => printed_to_master(alloc, &MasterReply::Fail { id }),
     }
@@ -79,6 +74,14 @@ fn success_line(
             last,
         },
     )
+}
+
+fn user_line(alloc: Global, id: u32, user: &Text, fields: &Fields) -> Result<Text, AllocError>
+    ensures { IfOk result (λ line. line ≡ master_reply_line (MasterReply.User id user.now fields.now)) }
+{
+    let user = user.copy(alloc)?;
+    let fields = fields.copy(alloc)?;
+    printed_to_master(alloc, &MasterReply::User { id, user, fields })
 }
 
 /// The line of a challenge in the request of this id, without its LF.
