@@ -1,5 +1,5 @@
 -- The words that name a choice.
-use Rattle.std.specs.Prelude.{List, [], ◌∷◌, find, Option, bytes_eq, codes}
+use Rattle.std.specs.Prelude.{List, [], ◌∷◌, find, Option, Some, None, if◌then◌else◌, bytes_eq, codes}
 use Rattle.da_base.specs.Words.{Bytes}
 use Rattle.da_fields.specs.declared.outcome.Rule.{Rule}
 use Rattle.da_fields.specs.declared.outcome.Rule.TheVariants.{ReturnOk, ReturnFail, Return, ContinueOk, ContinueFail, Continue}
@@ -18,45 +18,27 @@ use Rattle.da_userdb.specs.declared.database.UserSkip.TheVariants.{Never as User
 abbrev pub mechanism_called : Bytes → Option Mech
 mechanism_called text = find (λ mech. bytes_eq text (mechanism_name mech)) (Plain ∷ Login ∷ CramMd5 ∷ ScramSha256 ∷ [])
 
-abbrev pub rule_word : Rule → Bytes
-rule_word ReturnOk = codes "return-ok"
-rule_word ReturnFail = codes "return-fail"
-rule_word Return = codes "return"
-rule_word ContinueOk = codes "continue-ok"
-rule_word ContinueFail = codes "continue-fail"
-rule_word Continue = codes "continue"
+-- the choice of this name, where each has one
+abbrev pub named : {A : Type 0} → List (A × Bytes) → Bytes → Option A
+named [] text = None
+named (choice ∷ choices) text = if bytes_eq text choice.1 then Some choice.0 else named choices text
 
 abbrev pub rule_called : Bytes → Option Rule
-rule_called text = find (λ rule. bytes_eq text (rule_word rule)) (ReturnOk ∷ ReturnFail ∷ Return ∷ ContinueOk ∷ ContinueFail ∷ Continue ∷ [])
-
-abbrev pub driver_word : Driver → Bytes
-driver_word PasswdFile = codes "passwd-file"
-driver_word Worker = codes "worker"
-driver_word Checkpassword = codes "checkpassword"
+rule_called =
+    named ((ReturnOk, codes "return-ok") ∷ (ReturnFail, codes "return-fail") ∷ (Return, codes "return")
+    ∷ (ContinueOk, codes "continue-ok") ∷ (ContinueFail, codes "continue-fail") ∷ (Continue, codes "continue") ∷ [])
 
 abbrev pub driver_called : Bytes → Option Driver
-driver_called text = find (λ driver. bytes_eq text (driver_word driver)) (PasswdFile ∷ Worker ∷ Checkpassword ∷ [])
-
-abbrev pub skip_word : Skip → Bytes
-skip_word Never = codes "never"
-skip_word Authenticated = codes "authenticated"
-skip_word Unauthenticated = codes "unauthenticated"
+driver_called =
+    named ((PasswdFile, codes "passwd-file") ∷ (Worker, codes "worker") ∷ (Checkpassword, codes "checkpassword") ∷ [])
 
 abbrev pub skip_called : Bytes → Option Skip
-skip_called text = find (λ skip. bytes_eq text (skip_word skip)) (Never ∷ Authenticated ∷ Unauthenticated ∷ [])
-
-abbrev pub user_driver_word : UserDriver → Bytes
-user_driver_word UserPasswdFile = codes "passwd-file"
-user_driver_word UserWorker = codes "worker"
-user_driver_word Prefetch = codes "prefetch"
+skip_called =
+    named ((Never, codes "never") ∷ (Authenticated, codes "authenticated") ∷ (Unauthenticated, codes "unauthenticated") ∷ [])
 
 abbrev pub user_driver_called : Bytes → Option UserDriver
-user_driver_called text = find (λ driver. bytes_eq text (user_driver_word driver)) (UserPasswdFile ∷ UserWorker ∷ Prefetch ∷ [])
-
-abbrev pub user_skip_word : UserSkip → Bytes
-user_skip_word UserNever = codes "never"
-user_skip_word Found = codes "found"
-user_skip_word NotFound = codes "notfound"
+user_driver_called =
+    named ((UserPasswdFile, codes "passwd-file") ∷ (UserWorker, codes "worker") ∷ (Prefetch, codes "prefetch") ∷ [])
 
 abbrev pub user_skip_called : Bytes → Option UserSkip
-user_skip_called text = find (λ skip. bytes_eq text (user_skip_word skip)) (UserNever ∷ Found ∷ NotFound ∷ [])
+user_skip_called = named ((UserNever, codes "never") ∷ (Found, codes "found") ∷ (NotFound, codes "notfound") ∷ [])

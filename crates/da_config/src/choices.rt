@@ -1,6 +1,6 @@
 // The words that name a choice.
-ghost use Rattle.std.specs.Prelude.{◌≡◌};
-ghost use Rattle.da_config.specs.Choices.{driver_called, driver_word, mechanism_called, rule_called, rule_word, skip_called, skip_word, user_driver_called, user_driver_word, user_skip_called, user_skip_word};
+ghost use Rattle.std.specs.Prelude.{◌≡◌, map};
+ghost use Rattle.da_config.specs.Choices.{driver_called, mechanism_called, named, rule_called, skip_called, user_driver_called, user_skip_called};
 
 use da_fields::Rule;
 use da_msgs::Mech;
@@ -16,120 +16,82 @@ pub fn mechanism_called(text: &[u8]) -> Option<Mech>
     MECHANISMS.iter().copied().find(|mech| text == mech.name())
 }
 
-const RULES: [Rule; 6] = [
-    Rule::ReturnOk,
-    Rule::ReturnFail,
-    Rule::Return,
-    Rule::ContinueOk,
-    Rule::ContinueFail,
-    Rule::Continue,
-];
-
-fn rule_word(rule: Rule) -> &'static [u8]
-    ensures { result.now ≡ rule_word rule }
+// The choice of this name, where each has one.
+fn named<C: Copy>(choices: &[(C, &str)], text: &[u8]) -> Option<C>
+    ensures { result ≡ named (map (λ choice. (choice.0, choice.1.now)) choices.now) text.now }
 {
-    match rule {
-        Rule::ReturnOk => b"return-ok",
-        Rule::ReturnFail => b"return-fail",
-        Rule::Return => b"return",
-        Rule::ContinueOk => b"continue-ok",
-        Rule::ContinueFail => b"continue-fail",
-        Rule::Continue => b"continue",
+    for choice in choices {
+        if text == choice.1.as_bytes() {
+            return Some(choice.0);
+        }
     }
+    None
 }
+
+const RULES: [(Rule, &str); 6] = [
+    (Rule::ReturnOk, "return-ok"),
+    (Rule::ReturnFail, "return-fail"),
+    (Rule::Return, "return"),
+    (Rule::ContinueOk, "continue-ok"),
+    (Rule::ContinueFail, "continue-fail"),
+    (Rule::Continue, "continue"),
+];
 
 /// The rule of this name.
 pub fn rule_called(text: &[u8]) -> Option<Rule>
     ensures { result ≡ rule_called text.now }
 {
-    RULES.iter().copied().find(|rule| text == rule_word(*rule))
+    named(&RULES, text)
 }
 
-const DRIVERS: [Driver; 3] = [Driver::PasswdFile, Driver::Worker, Driver::Checkpassword];
-
-fn driver_word(driver: Driver) -> &'static [u8]
-    ensures { result.now ≡ driver_word driver }
-{
-    match driver {
-        Driver::PasswdFile => b"passwd-file",
-        Driver::Worker => b"worker",
-        Driver::Checkpassword => b"checkpassword",
-    }
-}
+const DRIVERS: [(Driver, &str); 3] = [
+    (Driver::PasswdFile, "passwd-file"),
+    (Driver::Worker, "worker"),
+    (Driver::Checkpassword, "checkpassword"),
+];
 
 /// The driver of password databases of this name.
 pub fn driver_called(text: &[u8]) -> Option<Driver>
     ensures { result ≡ driver_called text.now }
 {
-    DRIVERS
-        .iter()
-        .copied()
-        .find(|driver| text == driver_word(*driver))
+    named(&DRIVERS, text)
 }
 
-const SKIPS: [Skip; 3] = [Skip::Never, Skip::Authenticated, Skip::Unauthenticated];
-
-fn skip_word(skip: Skip) -> &'static [u8]
-    ensures { result.now ≡ skip_word skip }
-{
-    match skip {
-        Skip::Never => b"never",
-        Skip::Authenticated => b"authenticated",
-        Skip::Unauthenticated => b"unauthenticated",
-    }
-}
+const SKIPS: [(Skip, &str); 3] = [
+    (Skip::Never, "never"),
+    (Skip::Authenticated, "authenticated"),
+    (Skip::Unauthenticated, "unauthenticated"),
+];
 
 /// When a password database of this word is passed over.
 pub fn skip_called(text: &[u8]) -> Option<Skip>
     ensures { result ≡ skip_called text.now }
 {
-    SKIPS.iter().copied().find(|skip| text == skip_word(*skip))
+    named(&SKIPS, text)
 }
 
-const USER_DRIVERS: [UserDriver; 3] = [
-    UserDriver::PasswdFile,
-    UserDriver::Worker,
-    UserDriver::Prefetch,
+const USER_DRIVERS: [(UserDriver, &str); 3] = [
+    (UserDriver::PasswdFile, "passwd-file"),
+    (UserDriver::Worker, "worker"),
+    (UserDriver::Prefetch, "prefetch"),
 ];
-
-fn user_driver_word(driver: UserDriver) -> &'static [u8]
-    ensures { result.now ≡ user_driver_word driver }
-{
-    match driver {
-        UserDriver::PasswdFile => b"passwd-file",
-        UserDriver::Worker => b"worker",
-        UserDriver::Prefetch => b"prefetch",
-    }
-}
 
 /// The driver of user databases of this name.
 pub fn user_driver_called(text: &[u8]) -> Option<UserDriver>
     ensures { result ≡ user_driver_called text.now }
 {
-    USER_DRIVERS
-        .iter()
-        .copied()
-        .find(|driver| text == user_driver_word(*driver))
+    named(&USER_DRIVERS, text)
 }
 
-const USER_SKIPS: [UserSkip; 3] = [UserSkip::Never, UserSkip::Found, UserSkip::NotFound];
-
-fn user_skip_word(skip: UserSkip) -> &'static [u8]
-    ensures { result.now ≡ user_skip_word skip }
-{
-    match skip {
-        UserSkip::Never => b"never",
-        UserSkip::Found => b"found",
-        UserSkip::NotFound => b"notfound",
-    }
-}
+const USER_SKIPS: [(UserSkip, &str); 3] = [
+    (UserSkip::Never, "never"),
+    (UserSkip::Found, "found"),
+    (UserSkip::NotFound, "notfound"),
+];
 
 /// When a user database of this word is passed over.
 pub fn user_skip_called(text: &[u8]) -> Option<UserSkip>
     ensures { result ≡ user_skip_called text.now }
 {
-    USER_SKIPS
-        .iter()
-        .copied()
-        .find(|skip| text == user_skip_word(*skip))
+    named(&USER_SKIPS, text)
 }

@@ -1,13 +1,15 @@
 // The databases of a server.
-ghost use Rattle.std.specs.Prelude.{◌≡◌, ◌≤◌, ◌∷◌, ◌++◌, [], true, length, option_map, Some, None, IfOk, IfSome, OnOk};
+ghost use Rattle.std.specs.Prelude.{◌≡◌, ◌≤◌, ◌∷◌, ◌++◌, [], ℕ, true, length, option_map, Some, None, Result, IfOk, IfSome, OnOk};
 ghost use Rattle.da_settings.specs.SettingsRanges.{has_conflict, first_conflict};
 ghost use Rattle.da_settings.specs.DefaultSettings.{default_passdb};
 ghost use Rattle.da_passdb.specs.LoginChain.{are_valid_passdbs};
 ghost use Rattle.da_userdb.specs.UserChain.{are_valid_userdbs};
-ghost use Rattle.toml.specs.View.{items_view};
+ghost use Rattle.toml.specs.Data.{Members};
+ghost use Rattle.toml.specs.View.{items_view, table_view};
+ghost use Rattle.da_config.specs.declared.fault.Fault.{Fault};
 ghost use Rattle.da_config.specs.Reading.{IsRead, IsReadBy};
 ghost use Rattle.da_config.specs.Parts.{AreTables, are_tables, tables_in};
-ghost use Rattle.da_config.specs.Databases.{conflict_at, front as spec_front, passdbs_from, passdbs_of, unconflicted, userdbs_from, userdbs_of};
+ghost use Rattle.da_config.specs.Databases.{Fit, FitsPassdb, FitsUserdb, conflict_at, databases_from, front as spec_front, passdb_in, passdbs_of, unconflicted, userdb_in, userdbs_of};
 
 use crate::fault::{ConfigFault, Fault, FaultKind};
 use crate::part::TomlTable;
@@ -16,8 +18,9 @@ use crate::userdb::userdb;
 use da_fields::Text;
 use da_passdb::{Driver, Passdb};
 use da_settings::{Passdbs, Userdbs, default_passdb};
+use da_userdb::Userdb;
 use std::alloc::{AllocError, Global};
-use toml::Value;
+use toml::{Table, Value};
 
 // How the places in the table of this number begin.
 fn front(alloc: Global, array: &[u8], number: u32) -> Result<Vec<u8>, AllocError>
@@ -37,36 +40,57 @@ fn push<D: Drop>(dbs: &mut Vec<D>, db: D) -> Result<(), AllocError>
     Ok(())
 }
 
-fn read_passdbs(alloc: Global, array: &[Value]) -> Result<Passdbs, ConfigFault>
-    requires few { length array.now ≤ 16 }
-    requires tables { are_tables (items_view array.now) ≡ true }
-    ensures read { IsRead (passdbs_from 1 (tables_in (items_view array.now))) result }
-    ensures all { IfOk result (λ dbs. length dbs ≡ length array.now) }
-    ensures fit { IfOk result (λ dbs. are_valid_passdbs dbs ≡ true) }
-{
-    let mut dbs = Vec::new(alloc);
-    for value in array {
-        let Some(table) = value.as_table() else {
-            continue;
-        };
-        let number = dbs.len() as u32 + 1;
+/// A kind of database, of which each stands in a table of its own.
+trait Database: Drop {
+    /// What is found in the table of this number.
+    ghost found: { ℕ → Members → Result Self Fault };
+
+    /// What holds of the database of this number.
+    ghost fits: { ℕ → Self → Type 0 };
+
+    /// The database of this number, from its table.
+    fn read(alloc: Global, table: &Table, number: u32) -> Result<Self, ConfigFault>
+        ensures read { IsRead (found number (table_view table.now)) result }
+        ensures fit { IfOk result (fits number) };
+}
+
+impl Database for Passdb {
+    ghost found = { passdb_in };
+
+    ghost fits = { FitsPassdb };
+
+    fn read(alloc: Global, table: &Table, number: u32) -> Result<Passdb, ConfigFault> {
         let front = front(alloc, b"passdb", number)?;
         let part = TomlTable {
             table,
             front: &front,
         };
-        let db = passdb(alloc, &part, number)?;
-        push(&mut dbs, db)?;
+        passdb(alloc, &part, number)
     }
-    Ok(Passdbs::new(dbs))
 }
 
-fn read_userdbs(alloc: Global, array: &[Value]) -> Result<Userdbs, ConfigFault>
+impl Database for Userdb {
+    ghost found = { userdb_in };
+
+    ghost fits = { FitsUserdb };
+
+    fn read(alloc: Global, table: &Table, number: u32) -> Result<Userdb, ConfigFault> {
+        let front = front(alloc, b"userdb", number)?;
+        let part = TomlTable {
+            table,
+            front: &front,
+        };
+        userdb(alloc, &part, number)
+    }
+}
+
+// The databases of these tables, numbered from 1 on.
+fn read_databases<D: Database>(alloc: Global, array: &[Value]) -> Result<Vec<D>, ConfigFault>
     requires few { length array.now ≤ 16 }
     requires tables { are_tables (items_view array.now) ≡ true }
-    ensures read { IsRead (userdbs_from 1 (tables_in (items_view array.now))) result }
-    ensures all { IfOk result (λ dbs. length dbs ≡ length array.now) }
-    ensures fit { IfOk result (λ dbs. are_valid_userdbs dbs ≡ true) }
+    ensures read { IsReadBy (λ dbs. dbs.items) (databases_from D.found 1 (tables_in (items_view array.now))) result }
+    ensures all { IfOk result (λ dbs. length dbs.items ≡ length array.now) }
+    ensures fit { IfOk result (λ dbs. Fit D.fits 1 dbs.items) }
 {
     let mut dbs = Vec::new(alloc);
     for value in array {
@@ -74,15 +98,10 @@ fn read_userdbs(alloc: Global, array: &[Value]) -> Result<Userdbs, ConfigFault>
             continue;
         };
         let number = dbs.len() as u32 + 1;
-        let front = front(alloc, b"userdb", number)?;
-        let part = TomlTable {
-            table,
-            front: &front,
-        };
-        let db = userdb(alloc, &part, number)?;
+        let db = D::read(alloc, table, number)?;
         push(&mut dbs, db)?;
     }
-    Ok(Userdbs::new(dbs))
+    Ok(dbs)
 }
 
 fn has_conflict(db: &Passdb) -> bool
@@ -140,7 +159,7 @@ pub fn passdbs(alloc: Global, array: Option<&[Value]>) -> Result<Passdbs, Config
     ensures fit { IfOk result (λ dbs. are_valid_passdbs dbs ≡ true) }
 {
     match array {
-        Some(array) => read_passdbs(alloc, array),
+        Some(array) => Ok(Passdbs::new(read_databases(alloc, array)?)),
         None => Ok(default_passdbs(alloc)?),
     }
 }
@@ -153,7 +172,7 @@ pub fn userdbs(alloc: Global, array: Option<&[Value]>) -> Result<Userdbs, Config
     ensures fit { IfOk result (λ dbs. are_valid_userdbs dbs ≡ true) }
 {
     match array {
-        Some(array) => read_userdbs(alloc, array),
+        Some(array) => Ok(Userdbs::new(read_databases(alloc, array)?)),
         None => Ok(Userdbs::new(Vec::new(alloc))),
     }
 }

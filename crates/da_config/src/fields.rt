@@ -5,7 +5,7 @@ ghost use Rattle.da_fields.specs.FieldList.{field, with_field};
 ghost use Rattle.da_names.specs.Templates.{is_template_field};
 ghost use Rattle.da_config.specs.Reading.{IsRead};
 ghost use Rattle.da_config.specs.Parts.{part_of};
-ghost use Rattle.da_config.specs.Databases.{IsFieldOf, fields_after, fields_of, is_field_text};
+ghost use Rattle.da_config.specs.Databases.{IsFieldOf, added_fields_of, fields_after, fields_of, is_field_text};
 
 use crate::fault::{ConfigFault, FaultKind};
 use crate::part::TomlTable;
@@ -58,8 +58,8 @@ fn fields_in(alloc: Global, texts: &[Text]) -> Result<Option<Fields>, AllocError
     Ok(Some(fields))
 }
 
-/// The fields at a key, none where it is missing.
-pub fn fields(alloc: Global, part: &TomlTable<'_>, key: &str) -> Result<Fields, ConfigFault>
+// The fields at a key, none where it is missing.
+fn fields(alloc: Global, part: &TomlTable<'_>, key: &str) -> Result<Fields, ConfigFault>
     ensures read { IsRead (fields_of (part_of part.now) key.now) result }
     ensures fit { IfOk result (λ fields. list_all is_template_field fields ≡ true) }
 {
@@ -68,4 +68,25 @@ pub fn fields(alloc: Global, part: &TomlTable<'_>, key: &str) -> Result<Fields, 
         Some(fields) => Ok(fields),
         None => Err(part.fault(alloc, key, FaultKind::Range)),
     }
+}
+
+/// The fields that a database adds. Their values are templates.
+#[derive(Drop)]
+pub struct AddedFields {
+    /// Those that a request is given where it has none of the name.
+    pub defaults: Fields,
+    /// Those that come in place of others of the name.
+    pub overrides: Fields,
+}
+
+/// The default and override fields of a database.
+pub fn added_fields(alloc: Global, part: &TomlTable<'_>) -> Result<AddedFields, ConfigFault>
+    ensures read { IsRead (added_fields_of (part_of part.now)) result }
+    ensures defaults { IfOk result (λ added. list_all is_template_field added.defaults ≡ true) }
+    ensures overrides { IfOk result (λ added. list_all is_template_field added.overrides ≡ true) }
+{
+    Ok(AddedFields {
+        defaults: fields(alloc, part, "default_fields")?,
+        overrides: fields(alloc, part, "override_fields")?,
+    })
 }

@@ -12,6 +12,7 @@ mod groups;
 mod mechanisms;
 mod part;
 mod passdb;
+mod rules;
 mod server;
 mod userdb;
 

@@ -3,13 +3,13 @@ ghost use Rattle.std.specs.Prelude.{◌≡◌, true, IfOk};
 ghost use Rattle.da_passdb.specs.LoginChain.{is_valid_passdb};
 ghost use Rattle.da_config.specs.Reading.{IsRead};
 ghost use Rattle.da_config.specs.Parts.{part_of};
-ghost use Rattle.da_config.specs.Databases.{driver_of, passdb_of, rule_of, scheme_of, skip_of};
+ghost use Rattle.da_config.specs.Databases.{driver_of, passdb_of, scheme_of, skip_of};
 
-use crate::choices::{driver_called, rule_called, skip_called};
+use crate::choices::{driver_called, skip_called};
 use crate::fault::{ConfigFault, FaultKind};
-use crate::fields::fields;
+use crate::fields::added_fields;
 use crate::part::TomlTable;
-use da_fields::Rule;
+use crate::rules::read_rules;
 use da_passdb::{Driver, Passdb, Skip};
 use da_schemes::Scheme;
 use std::alloc::Global;
@@ -28,22 +28,6 @@ const KEYS: [&str; 12] = [
     "default_fields",
     "override_fields",
 ];
-
-/// The rule at a key, and the one of this name where it is missing.
-pub fn rule(
-    alloc: Global,
-    part: &TomlTable<'_>,
-    key: &str,
-    default: &[u8],
-) -> Result<Rule, ConfigFault>
-    ensures { IsRead (rule_of (part_of part.now) key.now default.now) result }
-{
-    let text = part.text(alloc, key, default)?;
-    match rule_called(text.bytes()) {
-        Some(rule) => Ok(rule),
-        None => Err(part.fault(alloc, key, FaultKind::Range)),
-    }
-}
 
 fn driver(alloc: Global, part: &TomlTable<'_>) -> Result<Driver, ConfigFault>
     ensures { IsRead (driver_of (part_of part.now)) result }
@@ -81,19 +65,28 @@ pub fn passdb(alloc: Global, part: &TomlTable<'_>, number: u32) -> Result<Passdb
     ensures fit { IfOk result (λ db. (db.number ≡ number) × (is_valid_passdb db ≡ true)) }
 {
     part.check_keys(alloc, &KEYS)?;
+    let driver = driver(alloc, part)?;
+    let args = part.text(alloc, "args", b"")?;
+    let deny = part.flag(alloc, "deny", false)?;
+    let master = part.flag(alloc, "master", false)?;
+    let skip = skip(alloc, part)?;
+    let rules = read_rules(alloc, part)?;
+    let default_scheme = scheme(alloc, part)?;
+    let username_filter = part.text(alloc, "username_filter", b"")?;
+    let fields = added_fields(alloc, part)?;
     Ok(Passdb {
         number,
-        driver: driver(alloc, part)?,
-        args: part.text(alloc, "args", b"")?,
-        deny: part.flag(alloc, "deny", false)?,
-        master: part.flag(alloc, "master", false)?,
-        skip: skip(alloc, part)?,
-        result_success: rule(alloc, part, "result_success", b"return-ok")?,
-        result_failure: rule(alloc, part, "result_failure", b"continue")?,
-        result_internalfail: rule(alloc, part, "result_internalfail", b"continue")?,
-        default_scheme: scheme(alloc, part)?,
-        username_filter: part.text(alloc, "username_filter", b"")?,
-        default_fields: fields(alloc, part, "default_fields")?,
-        override_fields: fields(alloc, part, "override_fields")?,
+        driver,
+        args,
+        deny,
+        master,
+        skip,
+        result_success: rules.success,
+        result_failure: rules.failure,
+        result_internalfail: rules.internalfail,
+        default_scheme,
+        username_filter,
+        default_fields: fields.defaults,
+        override_fields: fields.overrides,
     })
 }

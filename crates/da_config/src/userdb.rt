@@ -7,9 +7,9 @@ ghost use Rattle.da_config.specs.Databases.{user_driver_of, user_skip_of, userdb
 
 use crate::choices::{user_driver_called, user_skip_called};
 use crate::fault::{ConfigFault, FaultKind};
-use crate::fields::fields;
+use crate::fields::added_fields;
 use crate::part::TomlTable;
-use crate::passdb::rule;
+use crate::rules::read_rules;
 use da_userdb::{UserDriver, UserSkip, Userdb};
 use std::alloc::Global;
 
@@ -50,15 +50,20 @@ pub fn userdb(alloc: Global, part: &TomlTable<'_>, number: u32) -> Result<Userdb
     ensures fit { IfOk result (λ db. (db.number ≡ number) × (is_valid_userdb db ≡ true)) }
 {
     part.check_keys(alloc, &KEYS)?;
+    let driver = driver(alloc, part)?;
+    let args = part.text(alloc, "args", b"")?;
+    let skip = skip(alloc, part)?;
+    let rules = read_rules(alloc, part)?;
+    let fields = added_fields(alloc, part)?;
     Ok(Userdb {
         number,
-        driver: driver(alloc, part)?,
-        args: part.text(alloc, "args", b"")?,
-        skip: skip(alloc, part)?,
-        result_success: rule(alloc, part, "result_success", b"return-ok")?,
-        result_failure: rule(alloc, part, "result_failure", b"continue")?,
-        result_internalfail: rule(alloc, part, "result_internalfail", b"continue")?,
-        default_fields: fields(alloc, part, "default_fields")?,
-        override_fields: fields(alloc, part, "override_fields")?,
+        driver,
+        args,
+        skip,
+        result_success: rules.success,
+        result_failure: rules.failure,
+        result_internalfail: rules.internalfail,
+        default_fields: fields.defaults,
+        override_fields: fields.overrides,
     })
 }

@@ -1,0 +1,7 @@
+use Rattle.da_config.proofs.Numbering.{valid_userdbs}
+use Rattle.da_config.proofs.databases.userdbs.Goals as goal
+
+pub returns-in_ok-read_databases-in-Some-clause-fit : goal.returns-in_ok-read_databases-in-Some-clause-fit
+returns-in_ok-read_databases-in-Some-clause-fit c =
+    let dbs = c.in_ok-read_databases-in-Some in
+    rw c.new.ensures (valid_userdbs 1 dbs.field-0.items dbs.ensures.fit)
