@@ -17,7 +17,7 @@ use std::test::Fail;
 
 const HELLO: &[u8] = b"VERSION\t1\t1\nCPID\t7\n";
 
-const GREETING: &[u8] = b"VERSION\t1\t1\n\
+const GREETING: &[u8] = b"VERSION\t1\t2\n\
 MECH\tPLAIN\tplaintext\n\
 SPID\t1\n\
 CUID\t1\n\

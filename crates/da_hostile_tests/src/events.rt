@@ -12,7 +12,7 @@ pub const PID: &[u8] = b"0 line # - CPID\t#";
 
 pub const AUTH: &[u8] = b"0 line # - AUTH\t@\tPLAIN\tservice=imap\tresp=AGFsaWNlAHB3";
 
-pub const GREETING: &[u8] = b"1 > # VERSION\t1\t1\n\
+pub const GREETING: &[u8] = b"1 > # VERSION\t1\t2\n\
 1 > # MECH\tPLAIN\tplaintext\n\
 1 > # SPID\t1\n\
 1 > # CUID\t#\n\

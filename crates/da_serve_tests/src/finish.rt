@@ -120,7 +120,7 @@ fn a_client_gets_its_handshake_and_its_end_is_printed(rt: HostRuntime) -> Result
     assert_eq!(rt; served.status, 0);
     assert_eq!(rt;
         served.sent.bytes(),
-        b"VERSION\t1\t1\nMECH\tPLAIN\tplaintext\nSPID\t1\nCUID\t1\nCOOKIE\t00000000000000000000000000000000\nDONE\n".as_slice()
+        b"VERSION\t1\t2\nMECH\tPLAIN\tplaintext\nSPID\t1\nCUID\t1\nCOOKIE\t00000000000000000000000000000000\nDONE\n".as_slice()
     );
     assert_eq!(rt;
         served.printed.bytes(),
@@ -140,7 +140,7 @@ fn moments_and_random_bytes_are_those_handed_in(rt: HostRuntime) -> Result<(), F
     assert_eq!(rt; served.status, 0);
     assert_eq!(rt;
         served.sent.bytes(),
-        b"VERSION\t1\t1\nMECH\tPLAIN\tplaintext\nSPID\t1\nCUID\t1\nCOOKIE\t11111111111111111111111111111111\nDONE\n".as_slice()
+        b"VERSION\t1\t2\nMECH\tPLAIN\tplaintext\nSPID\t1\nCUID\t1\nCOOKIE\t11111111111111111111111111111111\nDONE\n".as_slice()
     );
     assert_eq!(rt;
         served.printed.bytes(),

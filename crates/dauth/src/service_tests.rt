@@ -103,7 +103,7 @@ fn login_and_request<R: Net + std::time::Clock>(
     Ok((client.abandon(), master.abandon()))
 }
 
-const CLIENT_IS_TOLD: &[u8] = b"VERSION\t1\t1
+const CLIENT_IS_TOLD: &[u8] = b"VERSION\t1\t2
 MECH\tPLAIN\tplaintext
 SPID\t1
 CUID\t1
