@@ -15,7 +15,8 @@ use Rattle.da_script.specs.Scripts.{script}
 use Rattle.da_stream.specs.Output.{Begins, WrittenFront, WrittenWhole}
 use Rattle.da_serve.specs.declared.finish.Written.{Written}
 use Rattle.da_serve.specs.declared.finish.Written.TheVariants.{Whole, Fault, NoMemory as WantsMemory}
-use Rattle.da_serve.specs.Printed.{Finishes, HasEnded, Prints, WritesScript, WrittenPart, entry_line}
+use Rattle.da_serve.specs.Bridges.{WritesScript, entry_line}
+use Rattle.da_serve.specs.Printed.{Finishes, HasEnded, Prints, WrittenPart}
 use Rattle.da_serve.proofs.Ends.{ended_stays}
 use Rattle.da_turn.specs.Entries.{IsLater}
 

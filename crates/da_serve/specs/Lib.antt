@@ -1,3 +1,4 @@
+pub mod Bridges
 pub mod Printed
 pub mod Serving
 pub mod Words

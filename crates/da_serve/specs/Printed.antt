@@ -1,18 +1,14 @@
 -- The end of a service, and the print of its history.
-use Rattle.std.specs.Prelude.{◌≡◌, ◌≤◌, ◌⊎◌, Bool, true, false, ◌&&◌, not, List, [], ◌∷◌, ◌++◌, Result, Ok, Err}
+use Rattle.std.specs.Prelude.{◌≡◌, ◌≤◌, ◌⊎◌, Bool, true, false, ◌&&◌, not, List}
 use Rattle.std.specs.Io.KnownBytes.{Appends}
 use Rattle.da_base.specs.Words.{Bytes}
 use Rattle.da_command.specs.declared.status.Status.{Status}
 use Rattle.da_command.specs.declared.status.Status.TheVariants.{Done, Full, NoMemory, WriteFault}
 use Rattle.da_outside.specs.Sink.{SinkState}
-use Rattle.da_outside.specs.declared.faults.Failed.{Failed}
 use Rattle.da_play.specs.Legal.{IsLegal, is_full, is_over}
 use Rattle.da_play.specs.declared.input.Entry.{Entry}
 use Rattle.da_port.specs.declared.terms.Terms.{Terms}
-use Rattle.da_script.specs.Events.{event_line}
 use Rattle.da_script.specs.Scripts.{script}
-use Rattle.da_serve.specs.declared.finish.Written.{Written}
-use Rattle.da_serve.specs.declared.finish.Written.TheVariants.{Whole, Fault, NoMemory as WantsMemory}
 use Rattle.da_stream.specs.Output.{Begins, WrittenFront, WrittenWhole}
 use Rattle.da_turn.specs.Entries.{IsLater}
 
@@ -31,12 +27,6 @@ HasEnded terms h = (is_full terms.settings h ≡ true) ⊎ WasOver terms h
 -- it is full, and its goal isn't met
 abbrev pub ends_full : Terms → List Entry → Bool
 ends_full terms h = is_full terms.settings h && not (is_over terms.settings terms.goal h)
-
--- Full exactly where the history is full and its goal isn't met, and Done exactly elsewhere
-abbrev pub TellsEnd : Bool → Status → Type 0
-TellsEnd full Full = full ≡ true
-TellsEnd full Done = full ≡ false
-TellsEnd full _ = ⊥
 
 -- ---- what is printed
 
@@ -66,20 +56,3 @@ pub record Finishes (terms : Terms) (seen : List Entry) (before after : SinkStat
   pub legal : IsLegal terms.settings history
   pub ended : HasEnded terms history
   pub prints : Prints terms history before after status
-
--- ---- the print, piece by piece
-
--- the line of an entry, with its LF
-abbrev pub entry_line : Entry → Bytes
-entry_line e = event_line e.moment e.input ++ 10 ∷ []
-
--- a front of the text was written, and the rest is left; or the sink failed
-abbrev pub WritesAhead : Bytes → Bytes → SinkState → SinkState → Result (Unit {0}) Failed → Type 0
-WritesAhead text rest before after (Ok done) = (front : Bytes) × (text ≡ front ++ rest) × WrittenWhole front before after
-WritesAhead text rest before after (Err failed) = WrittenFront text before after
-
--- by the end of the write
-abbrev pub WritesScript : Bytes → SinkState → SinkState → Written → Type 0
-WritesScript text before after Whole = WrittenWhole text before after
-WritesScript text before after Fault = WrittenFront text before after
-WritesScript text before after WantsMemory = WrittenPart text before after

@@ -1,5 +1,5 @@
 -- What `run_serve` does, by its words, its file and its sockets.
-use Rattle.std.specs.Prelude.{◌≡◌, ◌≤◌, ◌⊎◌, ⊤, List, Option, Some, None, Result, Ok, Err}
+use Rattle.std.specs.Prelude.{◌≡◌, ◌⊎◌, ⊤, List, Option, Some, None, Ok}
 use Rattle.da_base.specs.Words.{Bytes}
 use Rattle.da_command.specs.SettingsFile.{HoldsFault, HoldsSettings, PathFails}
 use Rattle.da_command.specs.declared.status.Status.{Status}
@@ -44,26 +44,11 @@ ServesNew settings goal before after status = ServesHistory (record { settings =
 module _ {C : Type 0} where
   -- ---- the sockets
 
-  -- by the answer of one bind: no connection was accepted, and NoListen is told only where the socket's count of faults rose
-  abbrev pub Binds : ListenState C → ListenState C → Result (Unit {0}) Status → Type 0
-  Binds before after (Ok done) = Stays before.left after.left × (before.faults ≤ after.faults)
-  Binds before after (Err NoListen) = Stays before.left after.left × Rose before.faults after.faults
-  Binds before after (Err NoMemory) = Stays before.left after.left × (before.faults ≤ after.faults)
-  Binds before after (Err _) = ⊥
-
   -- a bind failed: that of the clients' socket, or else that of the masters'; no connection was accepted
   abbrev pub BindFails : ListenState C → ListenState C → ListenState C → ListenState C → Type 0
   BindFails clients clients_after masters masters_after =
       Stays clients.left clients_after.left × Stays masters.left masters_after.left
       × (Rose clients.faults clients_after.faults ⊎ Rose masters.faults masters_after.faults)
-
-  -- by the answer of both binds, that of the clients' socket first
-  abbrev pub BindsBoth : ListenState C → ListenState C → ListenState C → ListenState C → Result (Unit {0}) Status → Type 0
-  BindsBoth clients clients_after masters masters_after (Ok done) =
-      Stays clients.left clients_after.left × Stays masters.left masters_after.left
-  BindsBoth clients clients_after masters masters_after (Err NoListen) = BindFails clients clients_after masters masters_after
-  BindsBoth clients clients_after masters masters_after (Err NoMemory) = ⊤
-  BindsBoth clients clients_after masters masters_after (Err _) = ⊥
 
   -- ---- under settings
 

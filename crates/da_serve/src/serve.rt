@@ -1,8 +1,9 @@
 // The command `serve`.
 
 ghost use Rattle.std.specs.Prelude.{◌≡◌, map, string_bytes};
+ghost use Rattle.da_serve.specs.Bridges.{Binds, BindsBoth};
 ghost use Rattle.da_serve.specs.Printed.{HasEnded};
-ghost use Rattle.da_serve.specs.Serving.{Binds, BindsBoth, RunsServe, ServesNew, ServesUnder};
+ghost use Rattle.da_serve.specs.Serving.{RunsServe, ServesNew, ServesUnder};
 ghost use Rattle.da_turn.specs.Seats.{IsFree, IsOf, seen};
 
 use crate::accept::accept_conns;
@@ -142,14 +143,16 @@ where
         rt,
         || -> Seat
             requires { IsOf port.now ticks × IsFree ticks }
-            ensures { (IsOf port.entry.now result × IsFree result) × HasEnded port.entry.now.fixed (seen result) }
+            ensures { (IsOf port.entry.now result × IsFree result)
+                × HasEnded port.entry.now.fixed (seen result) }
         {
             let mine = ticks;
             tick(rt, port, mine, clock, pause)
         },
         || -> (Seat, Seat)
             requires { (IsOf port.now seat × IsFree seat) × (IsOf port.now other × IsFree other) }
-            ensures { (IsOf port.entry.now result.0 × IsFree result.0) × (IsOf port.entry.now result.1 × IsFree result.1) }
+            ensures { (IsOf port.entry.now result.0 × IsFree result.0)
+                × (IsOf port.entry.now result.1 × IsFree result.1) }
         {
             let mine = seat;
             let theirs = other;
@@ -257,7 +260,8 @@ where
         rt,
         |scope| -> Seat
             requires { (IsOf port.now seat × IsFree seat) × (settings.now ≡ port.now.fixed.settings) }
-            ensures { (IsOf port.entry.now result × IsFree result) × HasEnded port.entry.now.fixed (seen result) }
+            ensures { (IsOf port.entry.now result × IsFree result)
+                × HasEnded port.entry.now.fixed (seen result) }
         {
             let mine = seat;
             serve_in(

@@ -3,7 +3,7 @@ use Rattle.std.proofs.lemmas.List.{take_all}
 use Rattle.da_base.specs.Words.{Bytes}
 use Rattle.da_play.specs.declared.input.Entry.{Entry}
 use Rattle.da_script.specs.Scripts.{script}
-use Rattle.da_serve.specs.Printed.{WritesScript}
+use Rattle.da_serve.specs.Bridges.{WritesScript}
 use Rattle.da_stream.specs.Output.{Begins}
 use Rattle.da_serve.proofs.PrintLemmas.{Printing, front_further, printing_ends, printing_fault, printing_more, printing_part, script_of_front}
 use Rattle.da_serve.proofs.finish.write_script.Goals as goal
