@@ -99,9 +99,9 @@ fewer answers d a (n ∷ ns) h = go h.0 (λ i. fewer answers d a ns (i, h.1))
     go : (n ≡ d) ⊎ IsIn d ns → (IsIn d ns → open_count (with_one answers d a) ns + 1 ≤ open_count answers ns) → open_count (with_one answers d a) (n ∷ ns) + 1 ≤ open_count answers (n ∷ ns)
     go (inl e) more =
         let now : cond (is_open (with_one answers d a) n) 1 0 ≡ 0 = ap (λ b. let k : ℕ = cond b 1 0 in k) (subst (λ m. is_open (with_one answers d a) m ≡ false) (sym e) (own_answered answers d a)) in
-        let then : cond (is_open answers n) 1 0 ≡ 1 = ap (λ o. let k : ℕ = cond (not (is_some o)) 1 0 in k) (ap (λ m. answer_from m answers) e ∙ h.1) in
+        let was : cond (is_open answers n) 1 0 ≡ 1 = ap (λ o. let k : ℕ = cond (not (is_some o)) 1 0 in k) (ap (λ m. answer_from m answers) e ∙ h.1) in
         let rest : open_count (with_one answers d a) ns ≤ open_count answers ns = fewer_or_same answers d a ns in
-        omega (arith, now, then, rest)
+        omega (arith, now, was, rest)
     go (inr i) more =
         let first : cond (is_open (with_one answers d a) n) 1 0 ≤ cond (is_open answers n) 1 0 = at_most _ _ (one_more answers d a n) in
         let rest : open_count (with_one answers d a) ns + 1 ≤ open_count answers ns = more i in

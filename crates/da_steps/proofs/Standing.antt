@@ -3,7 +3,7 @@ use Rattle.std.proofs.Common.{◌≡◌, ◌⊎◌, inl, inr, refl, sym, ◌∙�
 use Rattle.std.proofs.lemmas.Option.{none-some, same_Some}
 use Rattle.da_tables.proofs.Cases.{by_test, and_first, and_second, not_true}
 use Rattle.da_play.proofs.EntryInduction.{IsUndecidedAt}
-use Rattle.da_play.proofs.EntryParts.{BeforeParts, InputParts, ContinuedParts, IsSameConnection, IsSound, sound_input, before_gives, continued_gives, an_entry_gives, recorded}
+use Rattle.da_play.proofs.EntryParts.{InputParts, ContinuedParts, IsSameConnection, IsSound, sound_input, before_gives, continued_gives, an_entry_gives, recorded}
 use Rattle.da_tables.proofs.Rows.{same_or_not, nth-changed, nth-unchanged, nth-map, nth-before, first_passes}
 use Rattle.da_base.specs.Words.{Bytes, nth, changed_nth, passes_option}
 use Rattle.da_fields.specs.declared.answer.Answer.{Answer}
