@@ -1,5 +1,5 @@
 -- Clients' requests are timed out at their limit, and told so once.
-use Rattle.std.proofs.Common.{◌≡◌, ◌⊎◌, inl, inr, refl, sym, ◌∙◌, ap, subst, Option, Some, None, List, [], ◌∷◌, ◌++◌, ℕ, ◌+◌, ◌<◌, ◌≤◌, Bool, true, false, cond, is_some, map, not, ◌&&◌, ◌||◌, ◌==◌, if◌then◌else◌, nat_le, option_map, option_to_list, true≢false, ne_eqb, eq-eqb, arith}
+use Rattle.std.proofs.Common.{◌≡◌, ◌⊎◌, inl, inr, refl, sym, ◌∙◌, ap, subst, Option, Some, None, List, [], ◌∷◌, ◌++◌, ℕ, ◌+◌, ◌<◌, ◌≤◌, Bool, true, false, cond, is_some, map, not, ◌&&◌, ◌||◌, ◌==◌, if◌then◌else◌, nat_le, option_map, option_to_list, true≢false, ne_eqb, eq-eqb, zero-add, arith}
 use Rattle.std.specs.List.{list_any}
 use Rattle.std.proofs.lemmas.Bool.Decides.{nat_tests}
 use Rattle.std.proofs.lemmas.Option.{none-some, same_Some}
@@ -143,20 +143,20 @@ none_any p (x ∷ xs) e = go (p x) refl e (none_any p xs)
     go true d e rest = (let bad : ⊥ = omega (arith, e) in absurd bad)
     go false d e rest = ap (λ (b : Bool). b || list_any p xs) d ∙ rest (omega (arith, e))
 
+no_one : (p : ℕ → Bool) (xs : List ℕ) → list_any p xs ≡ false → count_where p xs ≡ 0
+no_one p [] e = refl
+no_one p (x ∷ xs) e = go (p x) e (no_one p xs)
+  where
+    go : (b : Bool) → (b || list_any p xs) ≡ false → (list_any p xs ≡ false → count_where p xs ≡ 0) → cond b 1 0 + count_where p xs ≡ 0
+    go true e rest = absurd (true≢false e)
+    go false e rest = zero-add _ ∙ rest e
+
 some_any : (p : ℕ → Bool) (xs : List ℕ) → count_where p xs ≡ 1 → list_any p xs ≡ true
 some_any p xs e = go (list_any p xs) refl
   where
-    no_one : (ys : List ℕ) → list_any p ys ≡ false → count_where p ys ≡ 0
-    no_one [] d = refl
-    no_one (y ∷ ys) d = at (p y) d
-      where
-        at : (b : Bool) → (b || list_any p ys) ≡ false → cond b 1 0 + count_where p ys ≡ 0
-        at true d = absurd (true≢false d)
-        at false d = no_one ys d
-
     go : (b : Bool) → list_any p xs ≡ b → list_any p xs ≡ true
     go true d = d
-    go false d = (let none : count_where p xs ≡ 0 = no_one xs d in let bad : ⊥ = omega (arith, none, e) in absurd bad)
+    go false d = (let none : count_where p xs ≡ 0 = no_one p xs d in let bad : ⊥ = omega (arith, none, e) in absurd bad)
 
 over_unreplied : (settings : Settings) (moment : ℕ) (r : Request) → is_over_limit settings moment r ≡ true → is_some r.replied ≡ false
 unfolding is_over_limit
