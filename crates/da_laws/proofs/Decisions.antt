@@ -1,5 +1,5 @@
 -- Which decisions are those of a stage.
-use Rattle.std.proofs.Common.{◌≡◌, refl, sym, ◌∙◌, ap, Bool, true, false, Option, Some, if◌then◌else◌, true≢false}
+use Rattle.std.proofs.Common.{◌≡◌, refl, sym, ◌∙◌, ap, Bool, true, false, Some, if◌then◌else◌, true≢false}
 use Rattle.std.proofs.lemmas.Option.{same_Some}
 use Rattle.da_request.specs.Requests.{decision, decision_in, is_failure, request_stage, timed_failure}
 use Rattle.da_request.specs.declared.request.Request.{Request}

@@ -16,7 +16,7 @@ use Rattle.da_request.specs.Requests.{is_over_limit, timed_out, timed_out_if_ove
 use Rattle.da_request.specs.Requests.{with_decision}
 use Rattle.da_request.specs.Requests.{body_with_text}
 use Rattle.da_request.specs.Requests.{with_answer}
-use Rattle.da_request.specs.Requests.{is_due, decision_in, lookup_stage, body_stage, decision, request_stage}
+use Rattle.da_request.specs.Requests.{is_due, decision_in, lookup_stage, body_stage, request_stage}
 use Rattle.da_request.specs.Requests.{is_of}
 use Rattle.da_play.specs.declared.input.Entry.{Entry}
 use Rattle.da_play.specs.declared.input.Input.{Input}

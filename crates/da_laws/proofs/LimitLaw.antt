@@ -1,8 +1,8 @@
 -- Clients' requests are timed out at their limit, and told so once.
-use Rattle.std.proofs.Common.{◌≡◌, ◌⊎◌, inl, inr, refl, sym, ◌∙◌, ap, subst, Option, Some, None, List, [], ◌∷◌, ◌++◌, ℕ, ◌+◌, ◌<◌, ◌≤◌, Bool, true, false, cond, is_some, map, not, ◌&&◌, ◌||◌, ◌==◌, if◌then◌else◌, nat_le, option_map, option_to_list, true≢false, ne_eqb, eq-eqb, zero-add, arith}
+use Rattle.std.proofs.Common.{◌≡◌, refl, sym, ◌∙◌, ap, subst, Option, Some, None, List, [], ◌∷◌, ℕ, ◌+◌, ◌<◌, Bool, true, false, cond, is_some, map, not, ◌&&◌, ◌||◌, ◌==◌, if◌then◌else◌, nat_le, option_map, option_to_list, true≢false, ne_eqb, zero-add, arith}
 use Rattle.std.specs.List.{list_any}
 use Rattle.std.proofs.lemmas.Bool.Decides.{nat_tests}
-use Rattle.std.proofs.lemmas.Option.{none-some, same_Some}
+use Rattle.std.proofs.lemmas.Option.{same_Some}
 use Rattle.da_base.specs.Words.{nth, count_where, later as later_by, option_or_else, passes_option}
 use Rattle.da_invariants.proofs.Marks.{IsMarked, history_marked}
 use Rattle.da_laws.proofs.Entries.{replies_at, replies_of}
@@ -10,9 +10,8 @@ use Rattle.da_laws.proofs.RepliedOnce.{entry_replies, times, times-append}
 use Rattle.da_laws.specs.LimitLaws.{IsTimedOut, LimitsTimeOut, NoLimitIsPassed, TakesTheFirst, TimedOutIsSilent, TimedOutIsTold, told}
 use Rattle.da_play.proofs.EntryInduction.{ContinuedUndecided}
 use Rattle.da_play.proofs.EntryParts.{IsSound, before_gives, sound_input}
-use Rattle.da_play.specs.Effects.{continued_if, due_requests, effects, final_replies}
-use Rattle.da_play.specs.History.{after, after_input, before_input, before_replies, tables_of}
-use Rattle.da_play.specs.declared.effects.Effects.{Effects}
+use Rattle.da_play.specs.Effects.{continued_if, effects, final_replies}
+use Rattle.da_play.specs.History.{after, after_input, before_input, tables_of}
 use Rattle.da_play.specs.declared.input.Entry.{Entry}
 use Rattle.da_play.specs.declared.input.Input.{Input}
 use Rattle.da_request.specs.Requests.{challenge_in, decision, decision_in, has_limit, is_authentication, is_due, is_over_limit, is_pending, is_undecided, limit_moment, replied_if_due, request_stage, timed_failure, timed_out, timed_out_if_over}

@@ -1,5 +1,5 @@
 -- Laws on the limit of clients' requests.
-use Rattle.std.specs.Prelude.{◌≡◌, ◌<◌, ℕ, true, false, List, ◌∷◌, ◌++◌, Some, None, codes, option_map, option_to_list, ◌==◌, is_some}
+use Rattle.std.specs.Prelude.{◌≡◌, ◌<◌, ℕ, true, false, List, ◌∷◌, ◌++◌, Some, codes, option_map, option_to_list, ◌==◌}
 use Rattle.std.specs.List.{list_any}
 use Rattle.da_base.specs.Words.{nth, count_where}
 use Rattle.da_msgs.specs.declared.code.Code.TheVariants.{Timeout}
