@@ -38,7 +38,7 @@ use Rattle.da_userdb.specs.declared.database.UserChain.TheVariants.{Ask as AskUs
 use Rattle.da_request.specs.Requests.{attempt_by, attempt_in}
 
 -- what a stage decides: an OK, a USER, or neither
-pub tells_ok : Stage → Bool
+unfoldable pub tells_ok : Stage → Bool
 tells_ok (Decided (Success user fields last)) = true
 tells_ok _ = false
 

@@ -20,9 +20,8 @@ use Rattle.da_passdb.specs.declared.chain.Verdict.{Verdict}
 use Rattle.da_passdb.specs.declared.chain.VerdictKind.{VerdictKind}
 use Rattle.da_passdb.specs.declared.chain.VerdictKind.TheVariants.{Ok as IsOkay, Fail as IsFail, Temp as IsTemp, Disabled as IsDisabled, Expired as IsExpired}
 use Rattle.da_passdb.specs.declared.login.Login.{Login}
-use Rattle.da_request.specs.Attempts.{Attempt, after_chain, after_proof, after_verdict, attempt_stage, decided_by, failure_code, has_proof, has_success, is_disabled, is_temp, login_in, mechanism_says, names, opening, opening_by, opening_named, opening_said, stage_from, with_credentials}
+use Rattle.da_request.specs.Attempts.{Attempt, after_chain, after_proof, after_verdict, attempt_stage, decided_by, failed, failure, has_proof, has_success, login_in, mechanism_says, names, opening, opening_by, opening_named, opening_said, stage_from, with_credentials}
 use Rattle.da_request.specs.Requests.{attempt_in, attempt_of, body_stage, decision, decision_in, login_of, lookup_stage, request_stage, timed_failure}
-use Rattle.da_request.specs.declared.failures.FailedBy.TheVariants.{Verdict as ByVerdict}
 use Rattle.da_request.specs.declared.openings.Opening.{Opening}
 use Rattle.da_request.specs.declared.openings.Opening.TheVariants.{Immediate, LogsIn}
 use Rattle.da_request.specs.declared.request.Body.{Body}
@@ -42,39 +41,42 @@ use Rattle.da_userdb.specs.declared.database.UserChain.TheVariants.{Ask as AskUs
 no : false ≡ true → ⊥
 no e = true≢false (sym e)
 
+abbrev FirstOf : Settings → Request → Bool → Bool → Bool → Code → Type 0
+FirstOf settings r authz temp disabled code = IsFirst (Applies settings r authz temp disabled) table code
+
+-- a stage that fails has the code of the first line
+OnFailure : Settings → Request → Stage → Type 0
+OnFailure settings r (Decided (Failure user authz temp disabled code reason)) = FirstOf settings r authz temp disabled code
+OnFailure settings r _ = Unit {0}
+
 -- ---- each line, where none before it applies
 
 module _ (settings : Settings) (r : Request) where
-  abbrev pub FirstOf : Bool → Bool → Bool → Code → Type 0
-  FirstOf authz temp disabled code = IsFirst (Applies settings r authz temp disabled) table code
-
-  temp_first : (authz disabled : Bool) → FirstOf authz true disabled Temp
+  temp_first : (authz disabled : Bool) → FirstOf settings r authz true disabled Temp
   temp_first authz disabled = inl (refl, refl)
 
-  disabled_first : (authz : Bool) → FirstOf authz false true Disabled
+  disabled_first : (authz : Bool) → FirstOf settings r authz false true Disabled
   disabled_first authz = inr (no, inl (refl, refl))
 
-  expired_first : (authz : Bool) → IsToldExpired settings r → FirstOf authz false false Expired
+  expired_first : (authz : Bool) → IsToldExpired settings r → FirstOf settings r authz false false Expired
   expired_first authz told = inr (no, inr (no, inl (refl, told)))
 
-  timeout_first : r.is_timed_out ≡ true → FirstOf false false false Timeout
+  timeout_first : r.is_timed_out ≡ true → FirstOf settings r false false false Timeout
   timeout_first over = inr (no, inr (no, inr ((λ told. true≢false (sym over ∙ told.is_in_time)), inl (refl, over))))
 
   module _ (in_time : r.is_timed_out ≡ false) (not_expired : IsToldExpired settings r → ⊥) where
     not_over : r.is_timed_out ≡ true → ⊥
     not_over over = true≢false (sym over ∙ in_time)
 
-    protocol_first : (authz : Bool) → MakesNoLogin settings r ⊎ IsBadWithStored settings r → FirstOf authz false false Protocol
+    protocol_first : (authz : Bool) → MakesNoLogin settings r ⊎ IsBadWithStored settings r → FirstOf settings r authz false false Protocol
     protocol_first authz off = inr (no, inr (no, inr (not_expired, inr (not_over, inl (refl, off)))))
 
-    plain_first : (authz : Bool) → (MakesNoLogin settings r ⊎ IsBadWithStored settings r → ⊥) → FirstOf authz false false (failure_code (ByVerdict IsFail) authz)
-    plain_first true on = inr (no, inr (no, inr (not_expired, inr (not_over, inr (on, inl (refl, refl))))))
-    plain_first false on = inr (no, inr (no, inr (not_expired, inr (not_over, inr (on, inr (no, inl (refl, tt)))))))
-
--- a stage that fails has the code of the first line
-OnFailure : Settings → Request → Stage → Type 0
-OnFailure settings r (Decided (Failure user authz temp disabled code reason)) = FirstOf settings r authz temp disabled code
-OnFailure settings r _ = Unit {0}
+    -- a failure that tells of nothing but a wrong login
+    plain_first : (MakesNoLogin settings r ⊎ IsBadWithStored settings r → ⊥) → (v : Verdict) (authz : Bool) →
+        OnFailure settings r (failure (record v { kind = IsFail; authz = authz }))
+    unfolding OnFailure
+    plain_first on v true = inr (no, inr (no, inr (not_expired, inr (not_over, inr (on, inl (refl, refl))))))
+    plain_first on v false = inr (no, inr (no, inr (not_expired, inr (not_over, inr (on, inr (no, inl (refl, tt)))))))
 
 -- ---- a login whose chain has ended
 
@@ -136,18 +138,24 @@ module _ (settings : Settings) (r : Request) (in_time : r.is_timed_out ≡ false
   told_proof x h =
       let same : (x.mech ≡ mech) × (x.verdict ≡ v) = same_end x.mech x.verdict x.ends in
       let proven : (last : Option Bytes) × SaysWith settings r x.mech x.verdict (Proves true last) = x.is_proven (ap has_proof same.0 ∙ h) in
-      (proven.0, same_says x.mech x.verdict (Proves true proven.0) same.0 same.1 proven.1)
+      let read : (stored : StoredPassword) × (v.credentials ≡ Some stored) × (mechanism_says mech settings a a.messages (Some stored) ≡ Proves true proven.0) =
+      same_says x.mech x.verdict (Proves true proven.0) same.0 same.1 proven.1 in
+      (proven.0, read.0, read.1, read.2)
 
   bad_proof : IsBadWithStored settings r →
       (has_success v.kind ≡ true) × (has_proof mech ≡ true) × (said : Said) × (is_message said ≡ false) × (stored : StoredPassword) × (v.credentials ≡ Some stored)
       × (mechanism_says mech settings a a.messages (Some stored) ≡ said)
   bad_proof x =
-      let same : (x.mech ≡ mech) × (x.verdict ≡ v) = same_end x.mech x.verdict x.ends in (
+      let same : (x.mech ≡ mech) × (x.verdict ≡ v) = same_end x.mech x.verdict x.ends in
+      let read : (stored : StoredPassword) × (v.credentials ≡ Some stored) × (mechanism_says mech settings a a.messages (Some stored) ≡ x.said) =
+      same_says x.mech x.verdict x.said same.0 same.1 x.says in (
         ap (λ (u : Verdict). has_success u.kind) (sym same.1) ∙ x.is_success,
         ap has_proof (sym same.0) ∙ x.is_by_proof,
         x.said,
         x.is_bad,
-        same_says x.mech x.verdict x.said same.0 same.1 x.says,
+        read.0,
+        read.1,
+        read.2,
       )
 
   makes_login : MakesNoLogin settings r → ⊥
@@ -167,14 +175,14 @@ module _ (settings : Settings) (r : Request) (in_time : r.is_timed_out ≡ false
   unfolding OnFailure is_expired_kind
   by_kind IsOkay is told good last = tt
   by_kind IsFail is told good last =
-      subst (λ (k : VerdictKind). FirstOf settings r v.authz (is_temp k) (is_disabled k) (failure_code (ByVerdict k) v.authz)) (sym is)
-      (plain_first settings r in_time (λ x. true≢false (sym (ap is_expired_kind (told_kind x)) ∙ ap is_expired_kind is)) v.authz (on_protocol (good refl)))
+      subst (λ (k : VerdictKind). OnFailure settings r (failure (record v { kind = k }))) (sym is)
+      (plain_first settings r in_time (λ x. true≢false (sym (ap is_expired_kind (told_kind x)) ∙ ap is_expired_kind is)) (on_protocol (good refl)) v v.authz)
   by_kind IsTemp is told good last =
-      subst (λ (k : VerdictKind). FirstOf settings r v.authz (is_temp k) (is_disabled k) (failure_code (ByVerdict k) v.authz)) (sym is) (temp_first settings r v.authz false)
+      subst (λ (k : VerdictKind). OnFailure settings r (failure (record v { kind = k }))) (sym is) (temp_first settings r v.authz false)
   by_kind IsDisabled is told good last =
-      subst (λ (k : VerdictKind). FirstOf settings r v.authz (is_temp k) (is_disabled k) (failure_code (ByVerdict k) v.authz)) (sym is) (disabled_first settings r v.authz)
+      subst (λ (k : VerdictKind). OnFailure settings r (failure (record v { kind = k }))) (sym is) (disabled_first settings r v.authz)
   by_kind IsExpired is told good last =
-      subst (λ (k : VerdictKind). FirstOf settings r v.authz (is_temp k) (is_disabled k) (failure_code (ByVerdict k) v.authz)) (sym is) (expired_first settings r v.authz (told refl))
+      subst (λ (k : VerdictKind). OnFailure settings r (failure (record v { kind = k }))) (sym is) (expired_first settings r v.authz (told refl))
 
   -- no proof is read: the verdict isn't a success, or the mechanism has none
   unread : (has_success v.kind && has_proof mech) ≡ false → OnFailure settings r (decided_by v.kind v None)
@@ -194,7 +202,7 @@ module _ (settings : Settings) (r : Request) (in_time : r.is_timed_out ≡ false
     without none =
         plain_first settings r in_time
         (λ x. (let p = told_proof x by_proof in none-some p.1 (sym none ∙ p.2)))
-        v.authz (on_protocol (λ x. (let p = bad_proof x in none-some p.4 (sym none ∙ p.5))))
+        (on_protocol (λ x. (let p = bad_proof x in none-some p.4 (sym none ∙ p.5)))) v v.authz
 
     module _ (stored : StoredPassword) (here : v.credentials ≡ Some stored) where
       same_said : (other : StoredPassword) (said : Said) → v.credentials ≡ Some other → mechanism_says mech settings a a.messages (Some other) ≡ said → mechanism_says mech settings a a.messages (Some stored) ≡ said
@@ -225,7 +233,7 @@ module _ (settings : Settings) (r : Request) (in_time : r.is_timed_out ≡ false
           (λ expired. record { mech = mech; verdict = v; ends = ended; is_expired = expired; is_in_time = in_time; is_proven = λ h. (last, says stored (Proves true last) here told) })
           (λ failed x. true≢false (sym success ∙ ap has_success failed)) last
       proven (Proves false last) told =
-          plain_first settings r in_time (not_right (Proves false last) told refl) v.authz (on_protocol (not_bad (Proves false last) told refl))
+          plain_first settings r in_time (not_right (Proves false last) told refl) (on_protocol (not_bad (Proves false last) told refl)) v v.authz
       proven Bad told = protocol_first settings r in_time (not_right Bad told refl) v.authz (inr (off Bad told refl))
 
     read : (o : Option StoredPassword) → v.credentials ≡ o → OnFailure settings r (with_credentials mech settings a v o)
