@@ -1,14 +1,14 @@
 -- Worked runs: workers die, and what they were asked is asked once more.
 use Rattle.std.specs.Prelude.{List, [], ◌∷◌, ◌++◌, Some, Ok, Err, codes}
 use Rattle.da_fields.specs.declared.answer.Answer.{Answer}
-use Rattle.da_fields.specs.declared.answer.Answer.TheVariants.{Found, Internal, Passed}
+use Rattle.da_fields.specs.declared.answer.Answer.TheVariants.{Found, Internal}
 use Rattle.da_fields.specs.declared.answer.QueryKind.TheVariants.{Check}
-use Rattle.da_fields.specs.declared.answer.Why.TheVariants.{Died, Malformed}
+use Rattle.da_fields.specs.declared.answer.Why.TheVariants.{Died}
 use Rattle.da_passdb.specs.declared.database.Driver.TheVariants.{Checkpassword}
 use Rattle.da_play.specs.Play.{Event}
 use Rattle.da_play.specs.declared.input.Input.TheVariants.{Take}
 use Rattle.da_play.specs.declared.outputs.Refused.TheVariants.{NothingWaits}
-use Rattle.da_runs.specs.RunWords.{Reply, alice, alice_with_no, answer, asks_password, due, introductions, line, nothing_of, plain_login, repeated, sent, silence}
+use Rattle.da_runs.specs.RunWords.{Reply, alice, alice_with_no, answer, asks_password, due, line, nothing_of, plain_login, repeated, sent, silence}
 use Rattle.da_runs.specs.RunsOfLimits.{is_asked, is_asked_replies, took_too_long, waits, waits_replies}
 use Rattle.da_settings.specs.DefaultSettings.{default_passdb, default_settings}
 use Rattle.da_settings.specs.declared.settings.Settings.{Settings}
