@@ -2,6 +2,7 @@ pub mod AnswerReadings
 pub mod Came
 pub mod ComparisonReadings
 pub mod ConnectionReadings
+pub mod LimitReadings
 pub mod OwnAnswers
 pub mod QueryReadings
 pub mod RequestReadings

@@ -1,5 +1,5 @@
 -- When a request was decided and replied is what the entries did.
-use Rattle.std.proofs.Common.{◌≡◌, ◌⊎◌, inl, inr, refl, sym, ◌∙◌, ap, subst, Option, Some, None, List, [], ◌∷◌, ◌++◌, ℕ, Bool, true, false, is_some, not, ◌&&◌, true≢false}
+use Rattle.std.proofs.Common.{◌≡◌, ◌⊎◌, inl, inr, refl, sym, ◌∙◌, ap, subst, Option, Some, None, List, [], ◌∷◌, ◌++◌, ℕ, Bool, true, false, is_some, map, not, ◌&&◌, true≢false}
 use Rattle.std.proofs.lemmas.Option.{none-some, same_Some}
 use Rattle.da_readings.proofs.Came.{WasThere, AllCame, came_same, came_changed, came_mapped, came_longer}
 use Rattle.da_tables.proofs.Cases.{by_test, and_first, and_second, not_true}
@@ -224,7 +224,7 @@ module _ (settings : Settings) (e : Entry) (origin : Tables) where
           (λ y d. inl d)
 
   replies_came : (tables : Tables) → NotReplied tables.requests → BothCame (with_due_replied settings e.moment tables).requests
-  unfolding with_due_replied
+  unfolding is_due with_due_replied
   replies_came tables p = record {
     decided = came_mapped (λ (r : Request). r.decided) AnyRow NewlyDecided origin.requests any any_on decided_continues (replied_if_due settings e.moment) tables.requests (λ r. tt)
         (λ n r x is d. inl (by_test (λ (y : Request). y.decided ≡ Some x → r.decided ≡ Some x) (is_due settings e.moment r) (record r { replied = Some e.moment }) r (λ y z. z) (λ y z. z) d)) p.came.decided;
@@ -237,7 +237,6 @@ module _ (settings : Settings) (e : Entry) (origin : Tables) where
           (λ y d. inl d)
         where
           held : is_due settings e.moment r ≡ true → (r.replied ≡ None) × (r.is_cancelled ≡ false)
-          unfolding is_due
           held due = (
             none_there r.replied (not_true (is_some r.replied) (and_second (is_some r.decided && not r.is_cancelled) _ (and_first (is_held r) _ due))),
             not_true r.is_cancelled (and_second (is_some r.decided) _ (and_first (is_some r.decided && not r.is_cancelled) _ (and_first (is_held r) _ due))),

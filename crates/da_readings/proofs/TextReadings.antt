@@ -1,5 +1,5 @@
 -- The texts of a request are those of the CONT lines that continued it.
-use Rattle.std.proofs.Common.{◌≡◌, ◌⊎◌, inl, inr, refl, sym, ◌∙◌, ap, ap₂, Option, Some, None, List, [], ◌∷◌, ◌++◌, ℕ, zero, suc, Bool, true, false, cond, map, option_map, option_and_then, append-nil, is_some, ◌==◌, eq-eqb, ne_eqb, true≢false}
+use Rattle.std.proofs.Common.{◌≡◌, ◌⊎◌, inl, inr, refl, sym, ◌∙◌, ap, ap₂, Option, Some, None, List, [], ◌∷◌, ◌++◌, ℕ, zero, suc, Bool, true, false, cond, map, option_map, option_and_then, append-nil, is_some, not, ◌&&◌, ◌==◌, eq-eqb, ne_eqb, true≢false}
 use Rattle.da_tables.proofs.Cases.{by_test, and_second}
 use Rattle.da_play.proofs.EntryParts.{BeforeParts, InputParts, ContinuedParts, ReadsClient, IsMade, MadeLogin, MadeLookup, an_entry_gives, before_gives, connections_before}
 use Rattle.da_tables.proofs.Rows.{same_or_not, nth-changed, nth-unchanged, listed, listed_at, changed_listed, map_listed, new_listed}
