@@ -1,170 +1,141 @@
-// One client's connection that is opened, read, written and printed by calls one after another.
+// What a client is sent, and what is printed of it.
 
-ghost use Rattle.std.specs.Prelude.{◌≡◌, true};
-ghost use Rattle.da_serve.specs.Printed.{HasEnded};
-ghost use Rattle.da_turn.specs.Seats.{IsFree, IsOf, seen};
-
-use da_command::Status;
-use da_core::{Goal, Settings};
-use da_msgs::ConnKind;
-use da_outside::{MemSink, MemSource, NoPause, SetClock, SetRand};
-use da_port::{Port, Seat};
-use da_serve::finish_serve;
-use da_session::{ReadEnd, WriteEnd, read_conn, write_conn};
+use crate::one_client::{Client, HELLO, SHORT, Served, serve};
+use da_session::{ReadEnd, WriteEnd};
 use std::alloc::{AllocError, Global};
+use std::process::Abort;
 use std::sync::Wait;
 use std::test::Fail;
 
-/// A client, the moment at which the clock stands, and the random byte that all others are.
+const GREETING: &[u8] = b"VERSION\t1\t2\n\
+MECH\tPLAIN\tplaintext\n\
+SPID\t1\n\
+CUID\t1\n\
+COOKIE\t00000000000000000000000000000000\n\
+DONE\n";
+
+const GREETING_WITH_ELEVENS: &[u8] = b"VERSION\t1\t2\n\
+MECH\tPLAIN\tplaintext\n\
+SPID\t1\n\
+CUID\t1\n\
+COOKIE\t11111111111111111111111111111111\n\
+DONE\n";
+
+const PRINTED: &[u8] = b"5 open client -\n\
+5 line 1 - VERSION\t1\t1\n\
+5 line 1 - CPID\t7\n\
+5 gone 1\n";
+
+const PRINTED_WITH_ELEVENS: &[u8] = b"6 open client 11111111111111111111111111111111\n\
+6 line 1 11111111111111111111111111111111 VERSION\t1\t1\n\
+6 line 1 11111111111111111111111111111111 CPID\t7\n\
+6 gone 1\n";
+
+const BROKEN: &[u8] = b"5 open client -\n\
+5 line 1 - VERSION\t1\t1\n\
+5 line 1 - CPID\t7\n\
+5 broken 1\n";
+
+const FULL: &[u8] = b"5 open client -\n\
+5 line 1 - VERSION\t1\t1\n\
+5 line 1 - CPID\t7\n";
+
+/// How a client is served, and what it is sent and what is printed then.
 #[derive(Clone, Copy, Drop)]
-struct Client<'a> {
-    sends: &'a [u8],
-    moment: u64,
-    random: u8,
-}
-
-/// What became of it.
-#[derive(Drop)]
-struct Served {
+struct Ends {
     read: ReadEnd,
-    write: WriteEnd,
     status: u8,
-    sent: MemSink,
-    printed: MemSink,
+    sent: &'static [u8],
+    printed: &'static [u8],
 }
 
-fn settings_of(alloc: Global) -> Option<Settings> {
-    da_config::read(alloc, b"failure_delay = 0\n").ok()
+fn is_so(served: &Served, ends: Ends) -> bool {
+    served.read == ends.read
+        && served.write == WriteEnd::Ended
+        && served.status == ends.status
+        && served.sent.bytes() == ends.sent
+        && served.printed.inner.bytes() == ends.printed
 }
 
-const GOAL: Goal = Goal {
-    clients: 1,
-    masters: 0,
-};
-
-fn session<R: Wait>(
-    rt: &R,
-    alloc: Global,
-    port: &Port,
-    seat: &mut Seat,
-    client: Client<'_>,
-    sink: &mut MemSink,
-) -> Option<(ReadEnd, WriteEnd)>
-    requires { IsOf port.now seat.old × IsFree seat.old }
-    ensures { IsOf port.now seat.new × IsFree seat.new }
-{
-    let mut source = MemSource::new(Vec::from_slice(alloc, client.sends).ok()?, Vec::new(alloc));
-    let mut moments = Vec::new(alloc);
-    moments.push(client.moment).ok()?;
-    let clock = SetClock::new(moments);
-    let mut rand = SetRand::new(&[[client.random; 16]]);
-    let random = [client.random; 16];
-    let conn = port
-        .connect(rt, seat, client.moment, ConnKind::Client, random)
-        .ok()?;
-    let read = read_conn(
-        rt,
-        alloc,
-        port,
-        seat,
-        conn,
-        &mut source,
-        &clock,
-        &mut rand,
-        &NoPause,
-    );
-    let write = write_conn(rt, port, seat, conn, sink, &NoPause);
-    Some((read, write))
+fn ends_so<R: Wait + Abort>(rt: &R, alloc: Global, client: &Client<'_>, ends: Ends) -> bool {
+    serve(rt, alloc, client).is_some_and(|served| is_so(&served, ends))
 }
-
-// Whether the history has ended.
-fn has_ended<R: Wait>(rt: &R, port: &Port, seat: &mut Seat) -> bool
-    requires { IsOf port.now seat.old × IsFree seat.old }
-    ensures own { IsOf port.now seat.new × IsFree seat.new }
-    ensures ended { result ≡ true → HasEnded port.now.fixed (seen seat.new) }
-{
-    port.end(rt, seat).is_some()
-}
-
-// `None` where it wasn't served to its end.
-fn serve<R: Wait>(rt: &R, alloc: Global, client: Client<'_>) -> Option<Served> {
-    let settings = settings_of(alloc)?;
-    let (port, mut seat) = Port::new(alloc, settings, Some(GOAL)).ok()?;
-    let mut sent = MemSink::new(alloc, Vec::new(alloc));
-    let mut printed = MemSink::new(alloc, Vec::new(alloc));
-    let (read, write) = session(rt, alloc, &port, &mut seat, client, &mut sent)?;
-    if !has_ended(rt, &port, &mut seat) {
-        return None;
-    }
-    let status = finish_serve(rt, alloc, port, seat, &mut printed).code();
-    Some(Served {
-        read,
-        write,
-        status,
-        sent,
-        printed,
-    })
-}
-
-const HELLO: &[u8] = b"VERSION\t1\t1\nCPID\t7\n";
 
 #[test]
-fn a_client_gets_its_handshake_and_its_end_is_printed(rt: HostRuntime) -> Result<(), Fail> {
-    let client = Client {
-        sends: HELLO,
-        moment: 5,
-        random: 0,
+fn a_client_gets_its_handshake_and_its_end_is_printed(rt: HostRuntime) {
+    let ends = Ends {
+        read: ReadEnd::Ended,
+        status: 0,
+        sent: GREETING,
+        printed: PRINTED,
     };
-    let served = serve(&rt, rt.alloc(), client).ok_or(AllocError)?;
-    assert!(rt; served.read == ReadEnd::Ended && served.write == WriteEnd::Ended);
-    assert_eq!(rt; served.status, 0);
-    assert_eq!(rt;
-        served.sent.bytes(),
-        b"VERSION\t1\t2\nMECH\tPLAIN\tplaintext\nSPID\t1\nCUID\t1\nCOOKIE\t00000000000000000000000000000000\nDONE\n".as_slice()
-    );
-    assert_eq!(rt;
-        served.printed.bytes(),
-        b"5 open client -\n5 line 1 - VERSION\t1\t1\n5 line 1 - CPID\t7\n5 gone 1\n".as_slice()
-    );
-    Ok(())
+    assert!(rt; ends_so(&rt, rt.alloc(), &SHORT, ends));
 }
 
 #[test]
-fn moments_and_random_bytes_are_those_handed_in(rt: HostRuntime) -> Result<(), Fail> {
+fn moments_and_random_bytes_are_those_handed_in(rt: HostRuntime) {
     let client = Client {
-        sends: HELLO,
         moment: 6,
         random: 0x11,
+        ..SHORT
     };
-    let served = serve(&rt, rt.alloc(), client).ok_or(AllocError)?;
-    assert_eq!(rt; served.status, 0);
-    assert_eq!(rt;
-        served.sent.bytes(),
-        b"VERSION\t1\t2\nMECH\tPLAIN\tplaintext\nSPID\t1\nCUID\t1\nCOOKIE\t11111111111111111111111111111111\nDONE\n".as_slice()
-    );
-    assert_eq!(rt;
-        served.printed.bytes(),
-        b"6 open client 11111111111111111111111111111111\n6 line 1 11111111111111111111111111111111 VERSION\t1\t1\n6 line 1 11111111111111111111111111111111 CPID\t7\n6 gone 1\n".as_slice()
-    );
-    Ok(())
+    let ends = Ends {
+        read: ReadEnd::Ended,
+        status: 0,
+        sent: GREETING_WITH_ELEVENS,
+        printed: PRINTED_WITH_ELEVENS,
+    };
+    assert!(rt; ends_so(&rt, rt.alloc(), &client, ends));
 }
 
 #[test]
 fn a_line_that_is_too_long_is_printed_as_broken(rt: HostRuntime) -> Result<(), Fail> {
-    let alloc = rt.alloc();
-    let mut sends = Vec::from_slice(alloc, HELLO)?;
+    let mut sends = Vec::from_slice(rt.alloc(), HELLO)?;
     sends.resize(HELLO.len() + 8193, b'x')?;
     let client = Client {
         sends: &sends,
-        moment: 5,
-        random: 0,
+        ..SHORT
     };
-    let served = serve(&rt, alloc, client).ok_or(AllocError)?;
-    assert!(rt; served.read == ReadEnd::Closed && served.write == WriteEnd::Ended);
-    assert_eq!(rt; served.status, 0);
-    assert_eq!(rt;
-        served.printed.bytes(),
-        b"5 open client -\n5 line 1 - VERSION\t1\t1\n5 line 1 - CPID\t7\n5 broken 1\n".as_slice()
-    );
+    let ends = Ends {
+        read: ReadEnd::Closed,
+        status: 0,
+        sent: GREETING,
+        printed: BROKEN,
+    };
+    assert!(rt; ends_so(&rt, rt.alloc(), &client, ends));
+    Ok(())
+}
+
+#[test]
+fn a_full_history_ends_the_reader_and_is_printed(rt: HostRuntime) {
+    let client = Client {
+        settings: b"failure_delay = 0\nhistory_entries = 3\n",
+        ..SHORT
+    };
+    let ends = Ends {
+        read: ReadEnd::Full,
+        status: 75,
+        sent: GREETING,
+        printed: FULL,
+    };
+    assert!(rt; ends_so(&rt, rt.alloc(), &client, ends));
+}
+
+// Whether so many bytes of the history are printed where the write of the next one fails.
+fn is_printed_until(served: &Served, count: usize) -> bool {
+    let printed = served.printed.inner.bytes();
+    served.status == 74 && printed.len() == count && PRINTED.starts_with(printed)
+}
+
+#[test]
+fn a_write_that_fails_leaves_a_front_of_the_history(rt: HostRuntime) -> Result<(), Fail> {
+    for count in 0..PRINTED.len() {
+        let client = Client {
+            write_fails: (count as u64).saturating_add(1),
+            ..SHORT
+        };
+        let served = serve(&rt, rt.alloc(), &client).ok_or(AllocError)?;
+        assert!(rt; is_printed_until(&served, count));
+    }
     Ok(())
 }

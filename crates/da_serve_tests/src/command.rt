@@ -1,5 +1,6 @@
 // The whole command in memory, over one client that introduces itself and goes, where a call to the outside fails.
 
+use crate::one_client::HELLO;
 use da_outside::{MemFiles, MemListen, MemSink, MemSource, NoPause, SetClock, SetRand, SoundCrew};
 use da_serve::run_serve;
 use std::alloc::{AllocError, Global};
@@ -50,7 +51,7 @@ fn files_of(alloc: Global, outside: &Outside) -> Result<MemFiles, AllocError> {
 }
 
 fn client_of(alloc: Global, outside: &Outside) -> Result<(MemSource, MemSink), AllocError> {
-    let bytes = Vec::from_slice(alloc, b"VERSION\t1\t1\nCPID\t7\n")?;
+    let bytes = Vec::from_slice(alloc, HELLO)?;
     let source = MemSource::new(bytes, only(alloc, outside.reads)?);
     Ok((source, MemSink::new(alloc, only(alloc, outside.writes)?)))
 }
