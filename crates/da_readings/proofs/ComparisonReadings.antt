@@ -28,7 +28,6 @@ use Rattle.da_request.specs.Requests.{is_undecided}
 use Rattle.da_steps.specs.Standing.{TablesStand, QueryStands}
 use Rattle.da_tables.specs.Tables.{AfterInput, with_end}
 use Rattle.da_play.specs.declared.input.Entry.{Entry}
-use Rattle.da_play.specs.declared.input.Input.TheVariants.{Take}
 use Rattle.da_settings.specs.declared.settings.Settings.{Settings}
 use Rattle.da_tables.specs.declared.queries.QueryRow.{QueryRow}
 use Rattle.da_request.specs.declared.stages.Question.{Question}

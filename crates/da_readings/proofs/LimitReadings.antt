@@ -1,5 +1,5 @@
 -- A request is timed out exactly where an entry found it a client's, undecided, and its limit reached.
-use Rattle.std.proofs.Common.{◌≡◌, ◌⊎◌, inl, inr, refl, sym, ◌∙◌, ap, subst, Option, Some, List, [], ◌∷◌, ◌++◌, ℕ, suc, Bool, true, false, length, is_some, map, not, ◌&&◌, true≢false}
+use Rattle.std.proofs.Common.{◌≡◌, ◌⊎◌, inl, inr, refl, sym, ◌∙◌, ap, subst, Option, Some, List, [], ◌∷◌, ◌++◌, ℕ, suc, true, false, length, is_some, map, not, ◌&&◌, true≢false}
 use Rattle.std.proofs.lemmas.Option.{same_Some}
 use Rattle.da_base.specs.Words.{nth, changed_nth}
 use Rattle.da_fields.specs.declared.answer.Answer.{Answer}
@@ -11,7 +11,7 @@ use Rattle.da_play.proofs.EntryParts.{InputParts, ContinuedParts, an_entry_gives
 use Rattle.da_play.specs.History.{after, before_input, tables_of}
 use Rattle.da_play.specs.declared.input.Entry.{Entry}
 use Rattle.da_readings.proofs.QueryReadings.{later_among}
-use Rattle.da_readings.specs.RowReadings.{Among, TimedOutIsRead, WasTimedOut}
+use Rattle.da_readings.specs.RowReadings.{TimedOutIsRead, WasTimedOut}
 use Rattle.da_request.specs.Requests.{as_cancelled_of, cancelled, is_due, is_of, is_over_limit, new_request, replied, replied_if_due, timed_out, timed_out_if_over, with_answer, with_decision, with_late_answer, with_text}
 use Rattle.da_request.specs.declared.request.Request.{Request}
 use Rattle.da_settings.specs.declared.settings.Settings.{Settings}
