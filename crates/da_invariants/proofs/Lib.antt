@@ -3,6 +3,7 @@ pub mod Distinct
 pub mod Keys
 pub mod KeysLaw
 pub mod KnownHits
+pub mod Lost
 pub mod Marks
 pub mod Names
 pub mod OpenQueries

@@ -19,12 +19,13 @@ is_zero (suc n) = false
 -- where each row of a table is in another and passes its test alike, the first that passes is the same
 first_alike : {A : Type 0} (p q : A → Bool) (xs ys : List A) → ((n : ℕ) (x : A) → nth xs n ≡ Some x → (y : A) × (nth ys n ≡ Some y) × (q y ≡ p x)) →
     (m : ℕ) → number_where p xs ≡ suc m → number_where q ys ≡ suc m
+unfolding is_zero
 first_alike p q [] ys h m e = absurd (true≢false (ap is_zero e))
 first_alike {A} p q (x ∷ xs) [] h m e = absurd (nowhere (h 1 x refl))
   where
     nowhere : (y : A) × (None ≡ Some y) × (q y ≡ p x) → ⊥
     nowhere (y, at, w) = none-some y at
-first_alike {A} p q (x ∷ xs) (y ∷ ys) h m e = go (p x) refl
+first_alike {A} p q (x ∷ xs) (y ∷ ys) h m e = go (p x) refl (first_alike p q xs ys rest)
   where
     head : q y ≡ p x
     head = of_row (h 1 x refl)
@@ -36,14 +37,14 @@ first_alike {A} p q (x ∷ xs) (y ∷ ys) h m e = go (p x) refl
     rest zero z at = absurd (none-some z at)
     rest (suc n) z at = h (suc (suc n)) z at
 
-    further : (k : ℕ) → number_where p xs ≡ k → one_further k ≡ suc m → one_further (number_where q ys) ≡ suc m
-    further zero d w = absurd (true≢false (ap is_zero w))
-    further (suc k) d w = ap one_further (first_alike p q xs ys rest k d) ∙ w
+    further : (k : ℕ) → ((j : ℕ) → number_where p xs ≡ suc j → number_where q ys ≡ suc j) → number_where p xs ≡ k → one_further k ≡ suc m → one_further (number_where q ys) ≡ suc m
+    further zero later d w = absurd (true≢false (ap is_zero w))
+    further (suc k) later d w = ap one_further (later k d) ∙ w
 
-    go : (b : Bool) → p x ≡ b → number_where q (y ∷ ys) ≡ suc m
-    go true d = ap (λ (c : Bool). cond c 1 (one_further (number_where q ys))) (head ∙ d) ∙ sym (ap (λ (c : Bool). cond c 1 (one_further (number_where p xs))) d) ∙ e
-    go false d = ap (λ (c : Bool). cond c 1 (one_further (number_where q ys))) (head ∙ d)
-        ∙ further (number_where p xs) refl (sym (ap (λ (c : Bool). cond c 1 (one_further (number_where p xs))) d) ∙ e)
+    go : (b : Bool) → p x ≡ b → ((j : ℕ) → number_where p xs ≡ suc j → number_where q ys ≡ suc j) → number_where q (y ∷ ys) ≡ suc m
+    go true d later = ap (λ (c : Bool). cond c 1 (one_further (number_where q ys))) (head ∙ d) ∙ sym (ap (λ (c : Bool). cond c 1 (one_further (number_where p xs))) d) ∙ e
+    go false d later = ap (λ (c : Bool). cond c 1 (one_further (number_where q ys))) (head ∙ d)
+        ∙ further (number_where p xs) later refl (sym (ap (λ (c : Bool). cond c 1 (one_further (number_where p xs))) d) ∙ e)
 
 -- a row that passes is found, or one before it
 found : {A : Type 0} (p : A → Bool) (xs : List A) (k : ℕ) (x : A) → nth xs k ≡ Some x → p x ≡ true → (m : ℕ) × (number_where p xs ≡ suc m)
