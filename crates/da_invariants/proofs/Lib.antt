@@ -1,3 +1,4 @@
+pub mod AskedAgain
 pub mod AsksNew
 pub mod Distinct
 pub mod Keys
