@@ -1,5 +1,5 @@
 -- The keys fit the cache, and each has an answer that may be repeated for some time.
-use Rattle.std.proofs.Common.{◌≡◌, ◌⊎◌, inl, inr, refl, sym, ◌∙◌, ap, ap₂, subst, Option, Some, None, List, [], ◌∷◌, ◌++◌, ℕ, zero, ◌+◌, ◌≤◌, ◌<◌, Bool, true, false, cond, length, take, is_some, option_map, option_and_then, le_trans, true≢false, zero-le, arith, ◌==◌}
+use Rattle.std.proofs.Common.{◌≡◌, ◌⊎◌, inl, inr, refl, sym, ◌∙◌, ap, ap₂, subst, Option, Some, None, List, [], ◌∷◌, ◌++◌, ℕ, ◌≤◌, ◌<◌, Bool, true, false, cond, length, take, is_some, option_map, option_and_then, le_trans, true≢false, zero-le, arith, ◌==◌}
 use Rattle.std.proofs.lemmas.Bool.Decides.{nat_tests}
 use Rattle.std.proofs.lemmas.Option.{none-some, same_Some}
 use Rattle.da_tables.proofs.Cases.{by_test}

@@ -1,5 +1,5 @@
 -- A query that is lost stays lost, and one that isn't stays so: the first query of a request to a database is the same in later tables.
-use Rattle.std.proofs.Common.{◌≡◌, refl, sym, ◌∙◌, ap, ap₂, Option, Some, None, List, [], ◌∷◌, ℕ, zero, suc, Bool, true, false, cond, ◌&&◌, ◌==◌, eq-eqb, true≢false, option_map}
+use Rattle.std.proofs.Common.{◌≡◌, refl, sym, ◌∙◌, ap, ap₂, Some, None, List, [], ◌∷◌, ℕ, zero, suc, Bool, true, false, cond, ◌&&◌, ◌==◌, eq-eqb, true≢false, option_map}
 use Rattle.std.proofs.lemmas.Option.{none-some, same_Some}
 use Rattle.da_base.specs.Words.{nth, changed_nth, number_where, one_further, passes_option}
 use Rattle.da_fields.specs.declared.answer.Answer.{Answer}
@@ -7,9 +7,8 @@ use Rattle.da_answers.specs.RecordedAnswers.{asks_same, is_death, is_kept_kind, 
 use Rattle.da_invariants.proofs.Names.{none_passes}
 use Rattle.da_tables.proofs.Rows.{nth-changed}
 use Rattle.da_steps.proofs.Standing.{RowsStand, changed_rows}
-use Rattle.da_steps.specs.Standing.{TablesStand, QueryStands}
+use Rattle.da_steps.specs.Standing.{QueryStands}
 use Rattle.da_tables.specs.declared.queries.QueryRow.{QueryRow}
-use Rattle.da_tables.specs.declared.tables.Tables.{Tables}
 use Rattle.da_request.specs.declared.stages.Question.{Question}
 
 is_zero : ℕ → Bool

@@ -1,16 +1,16 @@
 -- A request that is timed out is decided, and was replied by the entry that timed it out.
-use Rattle.std.proofs.Common.{◌≡◌, ◌⊎◌, inl, inr, refl, sym, ◌∙◌, ap, ap₂, subst, Option, Some, None, List, [], ◌∷◌, ◌++◌, ℕ, suc, Bool, true, false, length, is_some, not, ◌&&◌, nat_le, true≢false}
+use Rattle.std.proofs.Common.{◌≡◌, ◌⊎◌, inl, inr, refl, sym, ◌∙◌, ap₂, subst, Option, Some, List, [], ◌∷◌, ◌++◌, ℕ, suc, Bool, true, false, length, is_some, not, ◌&&◌, nat_le, true≢false}
 use Rattle.da_base.specs.Words.{Bytes, nth, changed_nth}
 use Rattle.da_fields.specs.declared.answer.Answer.{Answer}
 use Rattle.da_invariants.proofs.OpenQueries.{nowhere}
-use Rattle.da_play.proofs.EntryParts.{BeforeParts, InputParts, ContinuedParts, an_entry_gives, before_gives}
+use Rattle.da_play.proofs.EntryParts.{InputParts, ContinuedParts, an_entry_gives, before_gives}
 use Rattle.da_play.specs.History.{before_input, tables_of}
 use Rattle.da_play.specs.declared.input.Entry.{Entry}
 use Rattle.da_play.specs.declared.input.Input.{Input}
 use Rattle.da_request.specs.Requests.{as_cancelled_of, cancelled, has_limit, is_authentication, is_due, is_held, is_of, is_over_limit, is_pending, is_undecided, limit_moment, new_request, replied_if_due, timed_out, timed_out_if_over, with_answer, with_decision, with_late_answer, with_text}
 use Rattle.da_request.specs.declared.request.Request.{Request}
 use Rattle.da_settings.specs.declared.settings.Settings.{Settings}
-use Rattle.da_tables.proofs.Cases.{by_test, and_first, and_second, not_true}
+use Rattle.da_tables.proofs.Cases.{by_test, and_first, and_second}
 use Rattle.da_tables.proofs.Rows.{of_appended, of_changed, of_mapped}
 use Rattle.da_tables.specs.Tables.{with_due_replied, with_end, with_timed_out}
 use Rattle.da_tables.specs.declared.tables.Tables.{Tables}

@@ -1,10 +1,9 @@
 -- No two open clients have one process number, and no two requests of a connection one id.
-use Rattle.std.proofs.Common.{◌≡◌, ◌≢◌, map, ◌⊎◌, inl, inr, refl, sym, ◌∙◌, ap, subst, Option, Some, None, List, [], ◌∷◌, ◌++◌, ℕ, zero, suc, Bool, true, false, cond, not, length, is_some, true≢false, ◌==◌, ◌&&◌, ◌||◌, eq-eqb, option_map}
+use Rattle.std.proofs.Common.{◌≡◌, ◌≢◌, map, ◌⊎◌, inl, inr, refl, sym, ◌∙◌, ap, subst, Option, Some, None, List, [], ◌∷◌, ◌++◌, ℕ, zero, suc, Bool, true, false, cond, not, length, is_some, true≢false, ◌==◌, ◌&&◌, ◌||◌, eq-eqb}
 use Rattle.std.specs.List.{list_any}
 use Rattle.std.proofs.lemmas.Bool.{eqb-true}
 use Rattle.std.proofs.lemmas.Option.{none-some, same_Some}
 use Rattle.da_base.specs.Words.{Bytes, hex, nth, changed_nth, number_where, one_further, passes_option}
-use Rattle.da_msgs.specs.declared.kinds.ConnKind.{ConnKind}
 use Rattle.da_tables.proofs.Cases.{and_first, and_second, by_test}
 use Rattle.da_tables.proofs.Rows.{of_appended, of_changed, of_mapped}
 use Rattle.da_play.proofs.EntryParts.{ContinuedParts, InputParts, IsMade, IsSameConnection, MadeLogin, MadeLookup, TellsPid, an_entry_gives, before_gives}

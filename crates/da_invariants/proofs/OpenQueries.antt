@@ -2,7 +2,7 @@
 use Rattle.std.proofs.Common.{◌≡◌, ◌⊎◌, inl, inr, refl, sym, ◌∙◌, ap, subst, Option, Some, None, List, [], ◌∷◌, ◌++◌, ℕ, zero, suc, Bool, true, false, map, length, is_some, not, ◌&&◌, true≢false}
 use Rattle.std.proofs.lemmas.Option.{none-some, same_Some}
 use Rattle.da_tables.proofs.Cases.{by_test, and_first, and_second, not_true}
-use Rattle.da_play.proofs.EntryParts.{BeforeParts, InputParts, ContinuedParts, an_entry_gives, before_gives}
+use Rattle.da_play.proofs.EntryParts.{InputParts, ContinuedParts, an_entry_gives, before_gives}
 use Rattle.da_tables.proofs.Rows.{of_changed, of_appended, nth-past, nth-unchanged}
 use Rattle.da_steps.proofs.Standing.{RowsStand, longer_rows, mapped_rows, changed_rows, undecided_is}
 use Rattle.da_base.specs.Words.{Bytes, nth, changed_nth}
@@ -26,7 +26,6 @@ use Rattle.da_play.specs.declared.input.Entry.{Entry}
 use Rattle.da_play.specs.declared.input.Input.{Input}
 use Rattle.da_settings.specs.declared.settings.Settings.{Settings}
 use Rattle.da_tables.specs.declared.queries.QueryRow.{QueryRow}
-use Rattle.da_request.specs.declared.request.Body.{Body}
 use Rattle.da_request.specs.declared.stages.Question.{Question}
 use Rattle.da_request.specs.declared.request.Request.{Request}
 use Rattle.da_request.specs.declared.stages.Stage.{Stage}

@@ -1,8 +1,7 @@
 -- What a request's stage and its login depend on.
-use Rattle.std.proofs.Common.{◌≡◌, refl, ◌∙◌, ap, ℕ, Bool, List, Option, Some, None, option_and_then}
+use Rattle.std.proofs.Common.{◌≡◌, refl, ◌∙◌, ap, ℕ, List, Option, Some, None, option_and_then}
 use Rattle.da_base.specs.Words.{Bytes}
 use Rattle.da_fields.specs.Answers.{Answers}
-use Rattle.da_fields.specs.FieldList.{Pairs}
 use Rattle.da_fields.specs.declared.said.Said.{Said}
 use Rattle.da_fields.specs.declared.said.Said.TheVariants.{Challenge, Need, Proof as Proves, Bad}
 use Rattle.da_msgs.specs.Replies.{mechanism_named}

@@ -8,7 +8,6 @@ use Rattle.da_tables.specs.Connections.{is_used}
 use Rattle.da_play.specs.History.{tables_of}
 use Rattle.da_request.specs.Requests.{is_granted_for, decision, decision_in, request_stage, timed_failure}
 use Rattle.da_invariants.proofs.SameStage.{same_login, same_stage}
-use Rattle.da_settings.specs.declared.settings.Settings.{Settings}
 use Rattle.da_passdb.specs.declared.login.Login.{Login}
 use Rattle.da_request.specs.declared.request.Request.{Request}
 use Rattle.da_request.specs.declared.stages.Decision.{Decision}
