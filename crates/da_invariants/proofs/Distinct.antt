@@ -1,5 +1,5 @@
 -- The answers of a request are those of distinct databases.
-use Rattle.std.proofs.Common.{◌≡◌, ◌⊎◌, inl, inr, refl, sym, ◌∙◌, ap, ap₂, subst, Option, Some, None, List, [], ◌∷◌, ◌++◌, ℕ, zero, suc, ◌+◌, ◌≤◌, Bool, true, false, cond, not, ◌&&◌, length, is_some, ◌==◌, option_map, option_and_then, true≢false, append_assoc, zero-le, arith}
+use Rattle.std.proofs.Common.{◌≡◌, ◌⊎◌, inl, inr, refl, sym, ◌∙◌, ap, ap₂, subst, Option, Some, None, List, [], ◌∷◌, ◌++◌, ℕ, suc, ◌+◌, ◌≤◌, Bool, true, false, cond, not, ◌&&◌, length, is_some, ◌==◌, option_map, option_and_then, true≢false, append_assoc, zero-le, arith}
 use Rattle.std.proofs.lemmas.Bool.{eqb-true}
 use Rattle.std.proofs.lemmas.Option.{none-some, same_Some}
 use Rattle.da_invariants.proofs.AsksNew.{asks_new}
@@ -40,10 +40,10 @@ use Rattle.da_request.specs.declared.request.Request.{Request}
 use Rattle.da_tables.specs.declared.tables.Tables.{Tables}
 
 -- no database is named twice
-abbrev AreDistinct : Answers → Type 0
+abbrev pub AreDistinct : Answers → Type 0
 AreDistinct answers = (db : ℕ) → count_where (λ p. p.0 == db) answers ≤ 1
 
-abbrev AllDistinct : List Request → Type 0
+abbrev pub AllDistinct : List Request → Type 0
 AllDistinct rs = (n : ℕ) (r : Request) → nth rs n ≡ Some r → AreDistinct r.answers
 
 -- ---- one answer more
@@ -138,28 +138,28 @@ module _ (settings : Settings) (moment : ℕ) (before : Tables) (entered : Input
 
   module _ (origin hs : Tables) (same : TablesStand origin hs) where
     -- the request that continues has these hits still to come
-    record HasToCome (tables : Tables) (n : ℕ) (done : List ℕ) : Type 0 where
+    pub record HasToCome (tables : Tables) (n : ℕ) (done : List ℕ) : Type 0 where
       pub request : Request
       pub is_there : nth tables.requests n ≡ Some request
       pub to_come : (rest : List ℕ) → done ++ rest ≡ hits → AreHits settings moment origin request rest
 
-    abbrev ContinuedToCome : Tables → Option ℕ → List ℕ → Type 0
+    abbrev pub ContinuedToCome : Tables → Option ℕ → List ℕ → Type 0
     ContinuedToCome tables None done = Unit {0}
     ContinuedToCome tables (Some n) done = HasToCome tables n done
 
-    record DistinctNow (these : Tables) (m : Option ℕ) (done : List ℕ) : Type 0 where
+    pub record DistinctNow (these : Tables) (m : Option ℕ) (done : List ℕ) : Type 0 where
       pub tables : TablesStand origin these
       pub all : AllDistinct these.requests
       pub continued : ContinuedToCome these m done
 
-    abbrev all_distinct : Tables → Option ℕ → Type 0
+    abbrev pub all_distinct : Tables → Option ℕ → Type 0
     all_distinct tables m = AllDistinct tables.requests
 
     continued_stand : ContinuedParts settings moment before entered hits (λ tables m done. TablesStand origin tables) (λ tables m. TablesStand origin tables)
     continued_stand = continued_stands settings moment origin before entered hits
 
     -- the hit is the answer of what is asked
-    hit_is_asked : (tables : Tables) (number : ℕ) (a : QueryRow) (p : Answer × ℕ) → nth tables.queries number ≡ Some a → a.answer ≡ Some p → TablesStand origin tables → (r : Request) (q : Question) → IsUsable settings moment origin r q number →
+    pub hit_is_asked : (tables : Tables) (number : ℕ) (a : QueryRow) (p : Answer × ℕ) → nth tables.queries number ≡ Some a → a.answer ≡ Some p → TablesStand origin tables → (r : Request) (q : Question) → IsUsable settings moment origin r q number →
         (q.db ≡ a.question.db) × (answer_of origin number ≡ Some p.0)
     hit_is_asked tables number a p is e t r q u = go (newest_has origin (key_of q) origin.cacheable number u.is_newest)
       where
@@ -223,7 +223,7 @@ module _ (settings : Settings) (moment : ℕ) (before : Tables) (entered : Input
             × AreHits settings moment origin (with_hit origin question number q.continued.request) rest → ⊥
         go (question, asks, u, further) = known_stays origin tables number q.tables (usable_known settings moment origin q.continued.request question number u) e
 
-    continued_distinct : ContinuedParts settings moment before entered hits DistinctNow all_distinct
+    pub continued_distinct : ContinuedParts settings moment before entered hits DistinctNow all_distinct
     continued_distinct = record {
       hit = λ tables continued number done rest a p is e w u q. hit_distinct tables continued number done rest a p is e w (continued_stand.hit tables continued number done rest a p is e w u q.tables) q;
       misses = λ tables continued number done rest e w q. absurd (missed tables continued number done rest e w q);
@@ -250,43 +250,64 @@ timed_distinct settings moment tables p n r e = go (of_mapped (timed_out_if_over
     go : (s : Request) × (nth tables.requests n ≡ Some s) × (r ≡ timed_out_if_over settings moment s) → AreDistinct r.answers
     go (s, is, w) = subst AreDistinct (sym (ap (λ (x : Request). x.answers) w ∙ by_test (λ (x : Request). x.answers ≡ s.answers) (is_over_limit settings moment s) (timed_out moment s) s (λ d. refl) (λ d. refl))) (p n s is)
 
-before_distinct : (settings : Settings) (moment : ℕ) (input : Input) (tables : Tables) → AllDistinct tables.requests → AllDistinct (before_input settings moment input tables).requests
+pub before_distinct : (settings : Settings) (moment : ℕ) (input : Input) (tables : Tables) → AllDistinct tables.requests → AllDistinct (before_input settings moment input tables).requests
 before_distinct settings moment input tables p =
     before_gives settings moment tables input (λ t. AllDistinct t.requests) (λ t. AllDistinct t.requests) (λ t. AllDistinct t.requests)
     (record { takes = λ is. p; stays = p; times_out = timed_distinct settings moment; replies = due_distinct settings moment })
 
-entry_distinct : (settings : Settings) (tables : Tables) (e : Entry) → AllAsked settings tables.requests tables.queries →
-    ContinuedHits settings e.moment tables (option_and_then (nth (after_input settings e.moment e.input (before_input settings e.moment e.input tables)).tables.requests) (after_input settings e.moment e.input (before_input settings e.moment e.input tables)).continued) e.hits →
-    AllDistinct tables.requests → AllDistinct (after settings tables e).requests
-unfolding after
-entry_distinct settings tables e asked hits p =
-    let before : Tables = before_input settings e.moment e.input tables in
-    let h : AfterInput = after_input settings e.moment e.input before in
-    let all : AllAsked settings before.requests before.queries = before_all_asked settings e.moment e.input tables asked in
-    let s : IsSound settings e.moment before e.input (λ x m. TablesStand before x) _ h =
-    sound_input settings e.moment before e.input (λ x m. TablesStand before x) (input_stands settings e.moment before before e.input e.hits) e.input refl (all_same before) in
-    let t : TablesStand tables h.tables = tables_later tables before h.tables (before_stands settings e.moment e.input tables) s.fact in
-    let d : IsSound settings e.moment before e.input (λ x m. AllDistinct x.requests) _ h =
-    sound_input settings e.moment before e.input (λ x m. AllDistinct x.requests) (input_distinct settings e.moment before e.input e.hits all) e.input refl (before_distinct settings e.moment e.input tables p) in
-    continued_gives settings e.moment before e.input e.hits _ _ (continued_distinct settings e.moment before e.input e.hits all tables h.tables t) h
-    (record { tables = t; all = d.fact; continued = to_come before h all t h.continued s.continued hits }) s.continued
-  where
-    to_come : (before : Tables) (h : AfterInput) (all : AllAsked settings before.requests before.queries) (t : TablesStand tables h.tables) (m : Option ℕ) → ContinuedUndecided h.tables.requests m →
-        ContinuedHits settings e.moment tables (option_and_then (nth h.tables.requests) m) e.hits → ContinuedToCome settings e.moment before e.input e.hits all tables h.tables t h.tables m []
-    to_come before h all t None u x = tt
-    to_come before h all t (Some n) u x = go (passing is_undecided (nth h.tables.requests n) u)
-      where
-        go : (r : Request) × (nth h.tables.requests n ≡ Some r) × (is_undecided r ≡ true) → HasToCome settings e.moment before e.input e.hits all tables h.tables t h.tables n []
-        go (r, is, w) = record {
-          request = r;
-          is_there = is;
-          to_come = λ rest y. subst (AreHits settings e.moment tables r) (sym y) (subst (λ (o : Option Request). ContinuedHits settings e.moment tables o e.hits) is x);
-        }
+module _ (settings : Settings) (tables : Tables) (e : Entry) (asked : AllAsked settings tables.requests tables.queries) where
+  abbrev pub tables_before : Tables
+  tables_before = before_input settings e.moment e.input tables
+
+  abbrev pub own_effect : AfterInput
+  own_effect = after_input settings e.moment e.input tables_before
+
+  pub asked_before : AllAsked settings tables_before.requests tables_before.queries
+  asked_before = before_all_asked settings e.moment e.input tables asked
+
+  -- what the input's own effect leaves stands
+  pub effect_undecided : ContinuedUndecided own_effect.tables.requests own_effect.continued
+  effect_undecided =
+      let s : IsSound settings e.moment tables_before e.input (λ x m. TablesStand tables_before x) _ own_effect =
+      sound_input settings e.moment tables_before e.input (λ x m. TablesStand tables_before x) (input_stands settings e.moment tables_before tables_before e.input e.hits) e.input refl (all_same tables_before) in
+      s.continued
+
+  pub effect_stands : TablesStand tables own_effect.tables
+  effect_stands =
+      let s : IsSound settings e.moment tables_before e.input (λ x m. TablesStand tables_before x) _ own_effect =
+      sound_input settings e.moment tables_before e.input (λ x m. TablesStand tables_before x) (input_stands settings e.moment tables_before tables_before e.input e.hits) e.input refl (all_same tables_before) in
+      tables_later tables tables_before own_effect.tables (before_stands settings e.moment e.input tables) s.fact
+
+  to_come : (m : Option ℕ) → ContinuedUndecided own_effect.tables.requests m →
+      ContinuedHits settings e.moment tables (option_and_then (nth own_effect.tables.requests) m) e.hits → ContinuedToCome settings e.moment tables_before e.input e.hits asked_before tables own_effect.tables effect_stands own_effect.tables m []
+  to_come None u x = tt
+  to_come (Some n) u x = go (passing is_undecided (nth own_effect.tables.requests n) u)
+    where
+      go : (r : Request) × (nth own_effect.tables.requests n ≡ Some r) × (is_undecided r ≡ true) → HasToCome settings e.moment tables_before e.input e.hits asked_before tables own_effect.tables effect_stands own_effect.tables n []
+      go (r, is, w) = record {
+        request = r;
+        is_there = is;
+        to_come = λ rest y. subst (AreHits settings e.moment tables r) (sym y) (subst (λ (o : Option Request). ContinuedHits settings e.moment tables o e.hits) is x);
+      }
+
+  -- after the input's own effect, all answers are distinct, and the hits are still to come
+  pub effect_distinct : ContinuedHits settings e.moment tables (option_and_then (nth own_effect.tables.requests) own_effect.continued) e.hits → AllDistinct tables.requests →
+      DistinctNow settings e.moment tables_before e.input e.hits asked_before tables own_effect.tables effect_stands own_effect.tables own_effect.continued []
+  effect_distinct hits p =
+      let d : IsSound settings e.moment tables_before e.input (λ x m. AllDistinct x.requests) _ own_effect =
+      sound_input settings e.moment tables_before e.input (λ x m. AllDistinct x.requests) (input_distinct settings e.moment tables_before e.input e.hits asked_before) e.input refl (before_distinct settings e.moment e.input tables p) in
+      record { tables = effect_stands; all = d.fact; continued = to_come own_effect.continued effect_undecided hits }
+
+  entry_distinct : ContinuedHits settings e.moment tables (option_and_then (nth own_effect.tables.requests) own_effect.continued) e.hits → AllDistinct tables.requests → AllDistinct (after settings tables e).requests
+  unfolding after
+  entry_distinct hits p =
+      continued_gives settings e.moment tables_before e.input e.hits _ _ (continued_distinct settings e.moment tables_before e.input e.hits asked_before tables own_effect.tables effect_stands) own_effect
+      (effect_distinct hits p) effect_undecided
 
 start_distinct : AllDistinct []
 start_distinct n r e = absurd (nowhere n r e)
 
-history_distinct : (settings : Settings) (h : List Entry) → IsLegal settings h → AllDistinct (tables_of settings h).requests
+pub history_distinct : (settings : Settings) (h : List Entry) → IsLegal settings h → AllDistinct (tables_of settings h).requests
 history_distinct settings [] legal = start_distinct
 history_distinct settings (e ∷ g) legal = entry_distinct settings (tables_of settings g) e (history_asked settings g) legal.1.hits (history_distinct settings g legal.0)
 
