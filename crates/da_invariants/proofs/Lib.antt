@@ -1,4 +1,5 @@
 pub mod AskedAgain
+pub mod AskedTwice
 pub mod AsksNew
 pub mod Distinct
 pub mod Keys
@@ -8,5 +9,7 @@ pub mod Lost
 pub mod Marks
 pub mod Names
 pub mod OpenQueries
+pub mod Repeats
 pub mod SameStage
+pub mod Settled
 pub mod Standing
