@@ -1,7 +1,8 @@
 // A script that ends after any of its bytes.
 
-use crate::login::{Play, SCRIPT, line_ends, played, replies_to};
+use crate::login::{Play, line_ends, played, replies_to};
 use da_app::Status;
+use da_scripts::first_login::SCRIPT;
 use std::alloc::{AllocError, Global};
 use std::test::Fail;
 

@@ -1,6 +1,7 @@
 // A first login whose input or output fails at any of its calls.
 
-use crate::login::{Play, REPLIES, SCRIPT, line_ends, played, replies_to};
+use crate::login::{Play, line_ends, played, replies_to};
+use da_scripts::first_login::{REPLIES, SCRIPT};
 use std::alloc::{AllocError, Global};
 use std::test::Fail;
 

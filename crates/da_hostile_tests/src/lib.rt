@@ -14,5 +14,3 @@ mod events;
 mod faults;
 #[cfg(test)]
 mod login;
-#[cfg(test)]
-mod slow;

@@ -5,7 +5,7 @@
 //! value. So code that is generic over a trait can't make a fault up.
 //!
 //! Each trait with faults has two forms in memory. One with the prefix `Mem` holds its contents and a list of the calls
-//! that fail. One with the prefix `Sound` never fails.
+//! that fail. One with the prefix `Sound` never fails. The streams with the prefix `Slow` pass a few bytes a call.
 #![tactic(auto)]
 
 mod bytes;
@@ -23,6 +23,7 @@ mod rand;
 mod rest;
 mod runner;
 mod sink;
+mod slow;
 mod source;
 mod spawner;
 
@@ -37,5 +38,6 @@ pub use pause::{NoPause, Pause};
 pub use rand::{Rand, SetRand};
 pub use runner::{Exit, MemRunner, Run, Runner, SoundRunner};
 pub use sink::{MemSink, Sink, SoundSink};
+pub use slow::{SlowSink, SlowSource};
 pub use source::{MemSource, SoundSource, Source};
 pub use spawner::{MemSpawner, SoundSpawner, Spawned, Spawner, StartedLink, Talk};

@@ -8,6 +8,7 @@ pub mod connections;
 pub mod databases;
 pub mod delays;
 pub mod expired;
+pub mod first_login;
 pub mod handovers;
 pub mod limits;
 pub mod lost_queries;

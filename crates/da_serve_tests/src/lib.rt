@@ -8,5 +8,3 @@ mod command;
 mod finish;
 #[cfg(test)]
 mod one_client;
-#[cfg(test)]
-mod slow;

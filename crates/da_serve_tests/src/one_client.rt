@@ -4,10 +4,9 @@ ghost use Rattle.std.specs.Prelude.{◌≡◌, true};
 ghost use Rattle.da_serve.specs.Printed.{HasEnded};
 ghost use Rattle.da_turn.specs.Seats.{IsFree, IsOf, seen};
 
-use crate::slow::SlowSink;
 use da_core::Goal;
 use da_msgs::ConnKind;
-use da_outside::{MemSink, MemSource, NoPause, SetClock, SetRand};
+use da_outside::{MemSink, MemSource, NoPause, SetClock, SetRand, SlowSink};
 use da_port::{Port, Seat};
 use da_serve::finish_serve;
 use da_session::{ReadEnd, WriteEnd, read_conn, write_conn};
@@ -125,6 +124,7 @@ pub fn serve<R: Wait + Abort>(rt: &R, alloc: Global, client: &Client<'_>) -> Opt
     }
     let mut printed = SlowSink {
         inner: MemSink::new(alloc, only(rt, alloc, client.write_fails)),
+        most: 1,
     };
     let status = finish_serve(rt, alloc, port, seat, &mut printed).code();
     Some(Served {

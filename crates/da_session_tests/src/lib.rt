@@ -12,5 +12,3 @@ mod history;
 mod service;
 #[cfg(test)]
 mod session;
-#[cfg(test)]
-mod slow;

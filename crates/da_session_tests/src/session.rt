@@ -4,8 +4,7 @@ ghost use Rattle.da_turn.specs.Seats.{IsFree, IsOf};
 
 use crate::history::script_of;
 use crate::service::{bytes_of, clock_at, connect, only, port_of};
-use crate::slow::{SlowSink, SlowSource};
-use da_outside::{MemSink, MemSource, NoPause, SetRand};
+use da_outside::{MemSink, MemSource, NoPause, SetRand, SlowSink, SlowSource};
 use da_port::{Port, Seat};
 use da_session::{ReadEnd, WriteEnd, read_conn, write_conn};
 use std::alloc::Global;

@@ -2,7 +2,9 @@
 
 ghost use Rattle.std.specs.Prelude.{None, ◌<◌, ◌≤◌};
 
-use da_outside::{Failed, MemSink, MemSource, Sink, Source};
+use crate::faults::Failed;
+use crate::sink::{MemSink, Sink};
+use crate::source::{MemSource, Source};
 
 // How many bytes pass, where at most so many may and so many fit.
 fn room(most: usize, fits: usize) -> usize
