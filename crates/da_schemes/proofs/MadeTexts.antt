@@ -16,6 +16,7 @@ use Rattle.sha2.proofs.Facts256.{length-sha256}
 use Rattle.sha2.proofs.Facts512.{length-sha512}
 use Rattle.da_base.specs.Words.{Bytes, pieces, to_base64, from_base64}
 use Rattle.da_tabline.specs.Parts.{Lacks}
+use Rattle.da_tabline.proofs.PartLemmas.{pieces-Lacks, pieces-SplitsAt}
 use Rattle.da_schemes.specs.Hmac.{hi, hmac_sha256}
 use Rattle.da_schemes.specs.Keys.{stored_key, keys_of, bytes_spelled, keys_in_pieces}
 use Rattle.da_schemes.specs.Made.{keys_text, text_made, made, IsMade}
@@ -29,7 +30,6 @@ use Rattle.da_schemes.specs.declared.secret.Secret.{Secret}
 use Rattle.da_schemes.specs.declared.secret.Secret.TheVariants.{Plaintext, Digest, Keys}
 use Rattle.da_schemes.proofs.Base64.{from_base64-to_base64, Lacks-to_base64}
 use Rattle.da_schemes.proofs.Bytes.{IsBytes-append, IsBytes-take, IsBytes-md5, IsBytes-sha1, IsBytes-sha256, IsBytes-sha512, length-sha1}
-use Rattle.da_schemes.proofs.Pieces.{pieces-Lacks, pieces-SplitsAt}
 
 -- ---- the braces
 

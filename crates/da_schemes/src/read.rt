@@ -1,6 +1,5 @@
 // Reading the text of a stored password.
-ghost use Rattle.std.specs.Prelude.{◌≡◌, ◌∷◌, [], MatchOption, Some, None, IfOk};
-ghost use Rattle.da_base.specs.Words.{pieces};
+ghost use Rattle.std.specs.Prelude.{◌∷◌, [], IfOk};
 ghost use Rattle.da_schemes.specs.Keys.{IsRoundCount, rounds_spelled, bytes_spelled, keys_in_pieces, keys_spelled};
 ghost use Rattle.da_schemes.specs.Stored.{IsRead, decoded_by, bytes_written, own_encoding, secret_of_bytes, secret_written, secret_fits, IsFitting};
 
@@ -11,7 +10,7 @@ use crate::scheme::{Encoding, Kind, Label};
 use crate::secret::Secret;
 use base64::DecodeAllocError;
 use base64::engine::general_purpose::STANDARD;
-use da_tabline::{decimal_number, split_at_byte};
+use da_tabline::{decimal_number, four_pieces};
 use hex::FromHexError;
 use std::alloc::Global;
 
@@ -95,25 +94,6 @@ fn read_key(alloc: Global, text: &[u8]) -> Result<[u8; 32], SchemeFault>
     }
 }
 
-// The four parts of a text of keys, with commas between them.
-fn four_parts(text: &[u8]) -> Option<(&[u8], &[u8], &[u8], &[u8])>
-    ensures { MatchOption result (keys_in_pieces (pieces 44 text.now) ≡ None) (λ p. pieces 44 text.now ≡ p.0.now ∷ p.1.now ∷ p.2.now ∷ p.3.now ∷ []) }
-{
-    let Some((rounds, after_rounds)) = split_at_byte(text, b',') else {
-        return None;
-    };
-    let Some((salt, after_salt)) = split_at_byte(after_rounds, b',') else {
-        return None;
-    };
-    let Some((stored, server)) = split_at_byte(after_salt, b',') else {
-        return None;
-    };
-    match split_at_byte(server, b',') {
-        None => Some((rounds, salt, stored, server)),
-        Some(_) => None,
-    }
-}
-
 // The keys that four parts spell.
 fn keys_of_parts(
     alloc: Global,
@@ -142,9 +122,12 @@ fn read_keys(alloc: Global, text: &[u8]) -> Result<ScramKeys, SchemeFault>
     ensures read { IsRead (keys_spelled text.now) result }
     ensures fits { IfOk result (λ keys. IsRoundCount keys.rounds) }
 {
-    match four_parts(text) {
-        Some((rounds, salt, stored, server)) => keys_of_parts(alloc, rounds, salt, stored, server),
-        None => Err(SchemeFault::BadText),
+    let Some(parts) = four_pieces(text, b',') else {
+        return Err(SchemeFault::BadText);
+    };
+    match parts.more {
+        None => keys_of_parts(alloc, parts.first, parts.second, parts.third, parts.fourth),
+        Some(_) => Err(SchemeFault::BadText),
     }
 }
 

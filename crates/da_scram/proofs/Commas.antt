@@ -8,7 +8,7 @@ use Rattle.std.proofs.lemmas.List.Splits.{slice_split_at, join_with_byte-slice_s
 use Rattle.std.proofs.lemmas.List.Concat.{flat_map-append}
 use Rattle.da_base.specs.Words.{Bytes, pieces}
 use Rattle.da_tabline.specs.Parts.{Lacks, SplitsAt}
-use Rattle.da_schemes.proofs.Pieces.{pieces-Lacks, pieces-SplitsAt}
+use Rattle.da_tabline.proofs.PartLemmas.{pieces-Lacks, pieces-SplitsAt}
 use Rattle.da_scram.specs.Messages.{is_letter, is_extension, is_nonce, listed, written_letter, written, written_authzid}
 
 abbrev pub IsNoComma : ℕ → Type 0

@@ -11,8 +11,7 @@ use Rattle.std.proofs.Math.Seq.{take-append_seam}
 use Rattle.base64.specs.GeneralPurpose.{IsBytes}
 use Rattle.da_base.specs.Words.{Bytes, pieces, after_front, from_base64, to_base64}
 use Rattle.da_tabline.specs.Parts.{Lacks, SplitsAt}
-use Rattle.da_tabline.proofs.PartLemmas.{after_front_some, after_front_at}
-use Rattle.da_schemes.proofs.Pieces.{pieces-Lacks, pieces-SplitsAt}
+use Rattle.da_tabline.proofs.PartLemmas.{after_front_some, after_front_at, pieces-Lacks, pieces-SplitsAt}
 use Rattle.da_schemes.proofs.Base64.{from_base64-to_base64, Lacks-to_base64}
 use Rattle.da_scram.specs.Messages.{FirstMessage, FinalMessage, IsFinal, header, is_extension, is_proof, final_front, listed}
 use Rattle.da_scram.specs.Reading.{FinalParts, last_part, with_extension, parts_read, parts_after, right_proof, proof_read, final_of, final_with, final_after, final_message}

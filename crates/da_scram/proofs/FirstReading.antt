@@ -1,18 +1,18 @@
 -- The client's first message is read as it is spelled.
-use Rattle.std.proofs.Common.{◌≡◌, ℕ, ◌-◌, Bool, true, false, cond, ◌&&◌, ◌||◌, List, [], ◌∷◌, ◌++◌, length, take, is_some, Option, Some, None, option_map, option_and_then, eqb, codes, refl, sym, ap, ◌∙◌, subst, inl, inr, append_assoc, arith}
+use Rattle.std.proofs.Common.{◌≡◌, ℕ, ◌-◌, ◌<◌, Bool, true, false, cond, ◌&&◌, ◌||◌, List, [], ◌∷◌, ◌++◌, length, take, is_some, Option, Some, None, option_map, option_and_then, eqb, codes, refl, sym, ap, ◌∙◌, subst, inl, inr, append_assoc, arith}
 use Rattle.std.specs.List.{list_all, join_with_byte}
 use Rattle.std.proofs.lemmas.Bool.{cases_Bool, eqb-true, and_parts, and_from}
 use Rattle.std.proofs.lemmas.List.{length-append, append_cancel_left}
 use Rattle.std.proofs.lemmas.Option.{same_Some, cond_some, option_and_then_some}
 use Rattle.std.proofs.Math.Seq.{take-append_seam}
 use Rattle.da_base.specs.Words.{Bytes, pieces, after_front}
-use Rattle.da_tabline.specs.Parts.{Lacks}
+use Rattle.da_tabline.specs.Parts.{Lacks, IsCutInFour, more_pieces}
 use Rattle.da_tabline.proofs.PartLemmas.{after_front_some}
 use Rattle.da_scram.specs.Messages.{FirstMessage, IsFirst, header, first_bare, is_name, is_authzid, is_nonce, is_extension, is_first_message, written, written_authzid, listed}
 use Rattle.da_scram.specs.Reading.{flag_read, authzid_read, name_read, right_nonce, nonce_read, first_named, first_with, first_in_pieces, first_message}
-use Rattle.da_scram.specs.Cuts.{IsCommaCut, IsFirstCut, AreNames, ReadsFirst, extension_pieces}
+use Rattle.da_scram.specs.Cuts.{IsFirstCut, AreNames, ReadsFirst}
 use Rattle.da_scram.proofs.Commas.{EachLacks, Lacks-nil, Lacks-cons, pieces-listed, joined-listed, joined-pieces, Lacks-written, Lacks-written_authzid, Lacks-nonce, EachLacks-extensions}
-use Rattle.da_scram.proofs.NameReading.{name_read-some, name_read_written}
+use Rattle.da_scram.proofs.NameReading.{name_read-some, name_read_written, authzid_some, authzid_from}
 
 -- ---- the whole text
 
@@ -41,19 +41,6 @@ flag_some (c ∷ []) flag h =
     let parts = cond_some ((eqb c 110) || (eqb c 121)) c flag h in
     (ap (λ x. x ∷ []) parts.1, ap (λ x. (eqb x 110) || (eqb x 121)) (sym parts.1) ∙ parts.0)
 flag_some (c ∷ d ∷ cs) flag h = cc
-
-named_authzid : (authzid : Bytes) → is_name authzid ≡ true → (is_authzid authzid ≡ true) × (codes "a=" ++ written authzid ≡ written_authzid authzid)
-named_authzid [] h = cc
-named_authzid (c ∷ cs) h = (h, refl)
-
-authzid_some : (text authzid : Bytes) → authzid_read text ≡ Some authzid → (is_authzid authzid ≡ true) × (text ≡ written_authzid authzid)
-authzid_some [] authzid h = let e = same_Some [] authzid h in (ap is_authzid (sym e), ap written_authzid e)
-authzid_some (c ∷ cs) authzid h =
-    option_and_then_some name_read (after_front (codes "a=") (c ∷ cs)) authzid h
-    (λ name name_is more.
-    let read = name_read-some name authzid more in
-    let is = named_authzid authzid read.0 in
-    (is.0, after_front_some (codes "a=") (c ∷ cs) name name_is ∙ ap (λ l. codes "a=" ++ l) read.1 ∙ is.1))
 
 nonce_some : (text nonce : Bytes) → nonce_read text ≡ Some nonce → (is_nonce nonce ≡ true) × (text ≡ codes "r=" ++ nonce)
 nonce_some text nonce h =
@@ -167,10 +154,6 @@ no_comma_flag flag h =
       | inr e ↦ e
     ]
 
-authzid_from : (authzid : Bytes) → is_authzid authzid ≡ true → authzid_read (written_authzid authzid) ≡ Some authzid
-authzid_from [] h = refl
-authzid_from (c ∷ cs) h = name_read_written (c ∷ cs) h
-
 pieces-first : (m : FirstMessage) → IsRight m
     → pieces 44 (header m ++ first_bare m) ≡ (m.flag ∷ []) ∷ written_authzid m.authzid ∷ (codes "n=" ++ written m.name) ∷ (codes "r=" ++ m.nonce) ∷ m.extensions
 pieces-first m right =
@@ -208,13 +191,25 @@ pub some_of_is_some : {A : Type 0} (o : Option A) → is_some o ≡ true → (x 
 some_of_is_some None h = cc
 some_of_is_some (Some x) h = (x, refl)
 
-module _ (text flag authzid bare name nonce : Bytes) (extensions : Option Bytes) (cut : IsCommaCut text flag authzid bare name nonce extensions) where
-  cut_read : first_message text ≡ first_with (flag_read flag) authzid (after_front (codes "n=") name) (nonce_read nonce) (extension_pieces extensions)
+-- fewer than four pieces are no first message
+first_in_pieces-few : (texts : List Bytes) → length texts < 4 → first_in_pieces texts ≡ None
+first_in_pieces-few [] few = refl
+first_in_pieces-few (flag ∷ []) few = refl
+first_in_pieces-few (flag ∷ authzid ∷ []) few = refl
+first_in_pieces-few (flag ∷ authzid ∷ name ∷ []) few = refl
+first_in_pieces-few (flag ∷ authzid ∷ name ∷ nonce ∷ extensions) few = absurd (omega arith)
+
+pub too_few : (text : Bytes) → length (pieces 44 text) < 4 → first_message text ≡ None
+unfolding first_message
+too_few text few = first_in_pieces-few (pieces 44 text) few
+
+module _ (text flag authzid bare name nonce : Bytes) (extensions : Option Bytes) (cut : IsCutInFour 44 text flag authzid bare name nonce extensions) where
+  cut_read : first_message text ≡ first_with (flag_read flag) authzid (after_front (codes "n=") name) (nonce_read nonce) (more_pieces 44 extensions)
   unfolding first_message
   cut_read = ap first_in_pieces cut.cut
 
   pub no_flag : flag_read flag ≡ None → first_message text ≡ None
-  no_flag e = cut_read ∙ ap (λ o. first_with o authzid (after_front (codes "n=") name) (nonce_read nonce) (extension_pieces extensions)) e
+  no_flag e = cut_read ∙ ap (λ o. first_with o authzid (after_front (codes "n=") name) (nonce_read nonce) (more_pieces 44 extensions)) e
 
 first_with-no_name : (flag : Option ℕ) (authzid : Bytes) (nonce : Option Bytes) (extensions : List Bytes) → first_with flag authzid None nonce extensions ≡ None
 first_with-no_name None authzid _ extensions = refl
@@ -237,55 +232,55 @@ taken_front text front back e =
     let size : length text - length back ≡ length front = omega (arith, ap length e, length-append front back) in
     ap (λ n. take n text) size ∙ ap (take (length front)) e ∙ take-append_seam front back
 
-module _ (text flag authzid bare name nonce : Bytes) (extensions : Option Bytes) (cut : IsCommaCut text flag authzid bare name nonce extensions) where
+module _ (text flag authzid bare name nonce : Bytes) (extensions : Option Bytes) (cut : IsCutInFour 44 text flag authzid bare name nonce extensions) where
   pub no_name : after_front (codes "n=") name ≡ None → first_message text ≡ None
   no_name e =
-      cut_read text flag authzid bare name nonce extensions cut ∙ ap (λ o. first_with (flag_read flag) authzid o (nonce_read nonce) (extension_pieces extensions)) e
-      ∙ first_with-no_name (flag_read flag) authzid (nonce_read nonce) (extension_pieces extensions)
+      cut_read text flag authzid bare name nonce extensions cut ∙ ap (λ o. first_with (flag_read flag) authzid o (nonce_read nonce) (more_pieces 44 extensions)) e
+      ∙ first_with-no_name (flag_read flag) authzid (nonce_read nonce) (more_pieces 44 extensions)
 
   pub no_nonce : nonce_read nonce ≡ None → first_message text ≡ None
   no_nonce e =
       cut_read text flag authzid bare name nonce extensions cut
-      ∙ ap (λ o. first_with (flag_read flag) authzid (after_front (codes "n=") name) o (extension_pieces extensions)) e
-      ∙ first_with-no_nonce (flag_read flag) authzid (after_front (codes "n=") name) (extension_pieces extensions)
+      ∙ ap (λ o. first_with (flag_read flag) authzid (after_front (codes "n=") name) o (more_pieces 44 extensions)) e
+      ∙ first_with-no_nonce (flag_read flag) authzid (after_front (codes "n=") name) (more_pieces 44 extensions)
 
-  pub wrong_extensions : list_all is_extension (extension_pieces extensions) ≡ false → first_message text ≡ None
+  pub wrong_extensions : list_all is_extension (more_pieces 44 extensions) ≡ false → first_message text ≡ None
   wrong_extensions e =
       cut_read text flag authzid bare name nonce extensions cut
-      ∙ first_with-wrong (flag_read flag) authzid (after_front (codes "n=") name) (nonce_read nonce) (extension_pieces extensions) e
+      ∙ first_with-wrong (flag_read flag) authzid (after_front (codes "n=") name) (nonce_read nonce) (more_pieces 44 extensions) e
 
-  bare_text : bare ≡ name ++ 44 ∷ (nonce ++ listed (extension_pieces extensions))
+  bare_text : bare ≡ name ++ 44 ∷ (nonce ++ listed (more_pieces 44 extensions))
   bare_text =
-      let whole : flag ++ 44 ∷ (authzid ++ 44 ∷ bare) ≡ flag ++ 44 ∷ (authzid ++ 44 ∷ (name ++ 44 ∷ join_with_byte 44 (nonce ∷ extension_pieces extensions))) =
+      let whole : flag ++ 44 ∷ (authzid ++ 44 ∷ bare) ≡ flag ++ 44 ∷ (authzid ++ 44 ∷ (name ++ 44 ∷ join_with_byte 44 (nonce ∷ more_pieces 44 extensions))) =
       sym cut.whole ∙ joined-pieces text _ cut.cut in
       let after_flag = append_cancel_left flag _ _ whole in
-      let after_comma : authzid ++ 44 ∷ bare ≡ authzid ++ 44 ∷ (name ++ 44 ∷ join_with_byte 44 (nonce ∷ extension_pieces extensions)) = cc in
+      let after_comma : authzid ++ 44 ∷ bare ≡ authzid ++ 44 ∷ (name ++ 44 ∷ join_with_byte 44 (nonce ∷ more_pieces 44 extensions)) = cc in
       let after_authzid = append_cancel_left authzid _ _ after_comma in
-      let rest : bare ≡ name ++ 44 ∷ join_with_byte 44 (nonce ∷ extension_pieces extensions) = cc in
-      rest ∙ ap (λ l. name ++ 44 ∷ l) (joined-listed nonce (extension_pieces extensions))
+      let rest : bare ≡ name ++ 44 ∷ join_with_byte 44 (nonce ∷ more_pieces 44 extensions) = cc in
+      rest ∙ ap (λ l. name ++ 44 ∷ l) (joined-listed nonce (more_pieces 44 extensions))
 
   pub first_cut : (f : ℕ) (user_text nonce_text : Bytes) → flag_read flag ≡ Some f → after_front (codes "n=") name ≡ Some user_text → nonce_read nonce ≡ Some nonce_text
-      → list_all is_extension (extension_pieces extensions) ≡ true → IsFirstCut text (take (length text - length bare) text) bare authzid user_text nonce_text
+      → list_all is_extension (more_pieces 44 extensions) ≡ true → IsFirstCut text (take (length text - length bare) text) bare authzid user_text nonce_text
   first_cut f user_text nonce_text flag_is name_is nonce_is right =
       let flag_text = (flag_some flag f flag_is).0 in
       let name_text = after_front_some (codes "n=") name user_text name_is in
       let nonce_whole = (nonce_some nonce nonce_text nonce_is).1 in
       record {
         flag = f;
-        extensions = extension_pieces extensions;
+        extensions = more_pieces 44 extensions;
         read =
             cut_read text flag authzid bare name nonce extensions cut
-            ∙ ap (λ o. first_with o authzid (after_front (codes "n=") name) (nonce_read nonce) (extension_pieces extensions)) flag_is
-            ∙ ap (λ o. first_with (Some f) authzid o (nonce_read nonce) (extension_pieces extensions)) name_is
-            ∙ ap (λ o. first_with (Some f) authzid (Some user_text) o (extension_pieces extensions)) nonce_is
-            ∙ ap (λ b. cond b (first_named f (authzid_read authzid) (name_read user_text) nonce_text (extension_pieces extensions)) None) right;
+            ∙ ap (λ o. first_with o authzid (after_front (codes "n=") name) (nonce_read nonce) (more_pieces 44 extensions)) flag_is
+            ∙ ap (λ o. first_with (Some f) authzid o (nonce_read nonce) (more_pieces 44 extensions)) name_is
+            ∙ ap (λ o. first_with (Some f) authzid (Some user_text) o (more_pieces 44 extensions)) nonce_is
+            ∙ ap (λ b. cond b (first_named f (authzid_read authzid) (name_read user_text) nonce_text (more_pieces 44 extensions)) None) right;
         header_is =
             taken_front text (f ∷ 44 ∷ (authzid ++ 44 ∷ [])) bare
             (cut.whole ∙ ap (λ l. l ++ 44 ∷ (authzid ++ 44 ∷ bare)) flag_text ∙ ap (λ l. f ∷ 44 ∷ l) (sym (append_assoc authzid (44 ∷ []) bare)));
         bare_is =
-            bare_text ∙ ap (λ l. l ++ 44 ∷ (nonce ++ listed (extension_pieces extensions))) name_text
-            ∙ ap (λ l. (codes "n=" ++ user_text) ++ 44 ∷ (l ++ listed (extension_pieces extensions))) nonce_whole
-            ∙ bare_grouped user_text nonce_text (listed (extension_pieces extensions));
+            bare_text ∙ ap (λ l. l ++ 44 ∷ (nonce ++ listed (more_pieces 44 extensions))) name_text
+            ∙ ap (λ l. (codes "n=" ++ user_text) ++ 44 ∷ (l ++ listed (more_pieces 44 extensions))) nonce_whole
+            ∙ bare_grouped user_text nonce_text (listed (more_pieces 44 extensions));
       }
 
 -- ---- with its names

@@ -2,13 +2,14 @@
 use Rattle.std.proofs.Common.{◌≡◌, ℕ, Bool, true, false, ◌||◌, List, [], ◌∷◌, ◌++◌, Option, Some, None, option_map, option_and_then, eqb, codes, refl, sym, ap, ◌∙◌, inl, inr}
 use Rattle.std.proofs.lemmas.Bool.{cases_Bool, eqb-true, or_parts}
 use Rattle.std.proofs.lemmas.Option.{same_Some, cond_some, option_and_then_some}
-use Rattle.da_base.specs.Words.{Bytes}
+use Rattle.da_base.specs.Words.{Bytes, after_front}
+use Rattle.da_tabline.proofs.PartLemmas.{after_front_some}
 use Rattle.da_scram.specs.declared.names.Escaping.{Escaping}
 use Rattle.da_scram.specs.declared.names.Escaping.TheVariants.{Plainly, AfterEquals, AfterTwo, AfterThree}
 use Rattle.da_scram.specs.declared.names.LetterRead.{LetterRead}
 use Rattle.da_scram.specs.declared.names.LetterRead.TheVariants.{Nothing, Letter, Wrong}
-use Rattle.da_scram.specs.Messages.{is_name, written, written_letter}
-use Rattle.da_scram.specs.Reading.{next_escaping, letter_read, with_letter, letters_of, name_from, right_name, name_read}
+use Rattle.da_scram.specs.Messages.{is_name, is_authzid, written, written_letter, written_authzid}
+use Rattle.da_scram.specs.Reading.{next_escaping, letter_read, with_letter, letters_of, name_from, right_name, name_read, authzid_read}
 
 -- what an escape has taken in
 abbrev taken : Escaping → Bytes
@@ -100,3 +101,22 @@ name_read-some text name h =
 
 pub name_read_written : (name : Bytes) → is_name name ≡ true → name_read (written name) ≡ Some name
 name_read_written name h = ap (option_and_then right_name) (name_from_written name) ∙ rw h
+
+-- ---- the authorization identity
+
+named_authzid : (authzid : Bytes) → is_name authzid ≡ true → (is_authzid authzid ≡ true) × (codes "a=" ++ written authzid ≡ written_authzid authzid)
+named_authzid [] h = cc
+named_authzid (c ∷ cs) h = (h, refl)
+
+pub authzid_some : (text authzid : Bytes) → authzid_read text ≡ Some authzid → (is_authzid authzid ≡ true) × (text ≡ written_authzid authzid)
+authzid_some [] authzid h = let e = same_Some [] authzid h in (ap is_authzid (sym e), ap written_authzid e)
+authzid_some (c ∷ cs) authzid h =
+    option_and_then_some name_read (after_front (codes "a=") (c ∷ cs)) authzid h
+    (λ name name_is more.
+    let read = name_read-some name authzid more in
+    let is = named_authzid authzid read.0 in
+    (is.0, after_front_some (codes "a=") (c ∷ cs) name name_is ∙ ap (λ l. codes "a=" ++ l) read.1 ∙ is.1))
+
+pub authzid_from : (authzid : Bytes) → is_authzid authzid ≡ true → authzid_read (written_authzid authzid) ≡ Some authzid
+authzid_from [] h = refl
+authzid_from (c ∷ cs) h = name_read_written (c ∷ cs) h

@@ -1,20 +1,10 @@
 -- What the cuts of a message are, which the readers of the messages hand on.
 use Rattle.std.specs.Prelude.{◌≡◌, ℕ, List, [], ◌∷◌, ◌++◌, Option, Some, None, codes}
-use Rattle.da_base.specs.Words.{Bytes, pieces}
+use Rattle.da_base.specs.Words.{Bytes}
 use Rattle.da_scram.specs.Messages.{FirstMessage, FinalMessage, header, first_bare, final_front, listed}
 use Rattle.da_scram.specs.Reading.{authzid_read, name_read, first_named, first_message, FinalParts, final_message}
 
 -- ---- the first message
-
--- the pieces of what follows the nonce and a comma
-abbrev pub extension_pieces : Option Bytes → List Bytes
-extension_pieces None = []
-extension_pieces (Some text) = pieces 44 text
-
--- the pieces of the text, and what follows its second comma
-pub record IsCommaCut (text flag authzid bare name nonce : Bytes) (extensions : Option Bytes) : Type 0 where
-  pub cut : pieces 44 text ≡ flag ∷ authzid ∷ name ∷ nonce ∷ extension_pieces extensions
-  pub whole : text ≡ flag ++ 44 ∷ (authzid ++ 44 ∷ bare)
 
 -- the text is on its form but for its names
 pub record IsFirstCut (text gs2_header bare authzid name nonce : Bytes) : Type 0 where

@@ -3,27 +3,15 @@
 ghost use Rattle.std.specs.Prelude.{◌≡◌, ◌==◌, ◌&&◌, not, nat_le, None, is_some, IfOk, MatchOption, option_copied, option_map};
 ghost use Rattle.std.specs.List.{list_all};
 ghost use Rattle.da_base.specs.Words.{pieces};
+ghost use Rattle.da_tabline.specs.Parts.{IsCutInFour, more_pieces};
 ghost use Rattle.da_scram.specs.Messages.{is_nonce, is_extension};
-ghost use Rattle.da_scram.specs.Reading.{first_in_pieces, first_message, flag_read, authzid_read, nonce_read};
-ghost use Rattle.da_scram.specs.Cuts.{IsCommaCut, IsFirstCut, AreNames, ReadsFirst, extension_pieces};
+ghost use Rattle.da_scram.specs.Reading.{first_message, flag_read, nonce_read};
+ghost use Rattle.da_scram.specs.Cuts.{IsFirstCut, AreNames, ReadsFirst};
 
-use crate::names::read_name;
+use crate::names::{read_authzid, read_name};
 use da_fields::Text;
-use da_tabline::{split_at_byte, strip_front};
+use da_tabline::{FourPieces, four_pieces, split_at_byte, strip_front};
 use std::alloc::{AllocError, Global};
-
-/// The pieces of a first message between its commas.
-#[derive(Clone, Copy, Drop)]
-pub(crate) struct CommaCut<'a> {
-    pub flag: &'a [u8],
-    pub authzid: &'a [u8],
-    /// All that follows the second comma.
-    pub bare: &'a [u8],
-    pub name: &'a [u8],
-    pub nonce: &'a [u8],
-    /// All that follows the comma after the nonce, where there is one.
-    pub extensions: Option<&'a [u8]>,
-}
 
 /// The parts of a first message that is on its form but for its names.
 #[derive(Clone, Copy, Drop)]
@@ -47,62 +35,28 @@ pub(crate) struct Names {
     pub name: Text,
 }
 
-// The pieces between the commas. `None` exactly where there are fewer than four.
-fn comma_cut(text: &[u8]) -> Option<CommaCut>
-    ensures { MatchOption result (first_in_pieces (pieces 44 text.now) ≡ None)
-        (λ cut. IsCommaCut text.now cut.flag.now cut.authzid.now cut.bare.now cut.name.now cut.nonce.now (option_copied cut.extensions)) }
-{
-    let Some((flag, after_flag)) = split_at_byte(text, b',') else {
-        return None;
-    };
-    let Some((authzid, bare)) = split_at_byte(after_flag, b',') else {
-        return None;
-    };
-    let Some((name, after_name)) = split_at_byte(bare, b',') else {
-        return None;
-    };
-    match split_at_byte(after_name, b',') {
-        None => Some(CommaCut {
-            flag,
-            authzid,
-            bare,
-            name,
-            nonce: after_name,
-            extensions: None,
-        }),
-        Some((nonce, extensions)) => Some(CommaCut {
-            flag,
-            authzid,
-            bare,
-            name,
-            nonce,
-            extensions: Some(extensions),
-        }),
-    }
-}
-
 // The parts of a text that was cut at its commas. `None` exactly where it is off its form whatever its names are.
-fn checked_cut<'a>(text: &'a [u8], cut: CommaCut<'a>) -> Option<FirstCut<'a>>
-    requires { IsCommaCut text.now cut.flag.now cut.authzid.now cut.bare.now cut.name.now cut.nonce.now (option_copied cut.extensions) }
+fn checked_cut<'a>(text: &'a [u8], cut: FourPieces<'a>) -> Option<FirstCut<'a>>
+    requires { IsCutInFour 44 text.now cut.first.now cut.second.now cut.after_second.now cut.third.now cut.fourth.now (option_copied cut.more) }
     ensures { MatchOption result (first_message text.now ≡ None)
         (λ first. IsFirstCut text.now first.header.now first.bare.now first.authzid.now first.name.now first.nonce.now) }
 {
-    if !is_flag(cut.flag) {
+    if !is_flag(cut.first) {
         return None;
     }
-    if !are_extensions(cut.extensions) {
+    if !are_extensions(cut.more) {
         return None;
     }
-    let Some(name) = strip_front(cut.name, b"n=") else {
+    let Some(name) = strip_front(cut.third, b"n=") else {
         return None;
     };
-    let Some(nonce) = read_nonce(cut.nonce) else {
+    let Some(nonce) = read_nonce(cut.fourth) else {
         return None;
     };
     Some(FirstCut {
-        header: &text[..text.len() - cut.bare.len()],
-        bare: cut.bare,
-        authzid: cut.authzid,
+        header: &text[..text.len() - cut.after_second.len()],
+        bare: cut.after_second,
+        authzid: cut.second,
         name,
         nonce,
     })
@@ -114,7 +68,7 @@ pub(crate) fn cut_first(text: &[u8]) -> Option<FirstCut>
     ensures { MatchOption result (first_message text.now ≡ None)
         (λ first. IsFirstCut text.now first.header.now first.bare.now first.authzid.now first.name.now first.nonce.now) }
 {
-    match comma_cut(text) {
+    match four_pieces(text, b',') {
         None => None,
         Some(cut) => checked_cut(text, cut),
     }
@@ -151,19 +105,6 @@ pub(crate) fn read_first(alloc: Global, text: &[u8]) -> Result<Option<FirstCut>,
     Ok(Some(first))
 }
 
-// The authorization identity of its piece, empty where there is none.
-fn read_authzid(alloc: Global, piece: &[u8]) -> Result<Option<Text>, AllocError>
-    ensures { IfOk result (λ authzid. authzid ≡ authzid_read piece.now) }
-{
-    if piece.is_empty() {
-        return Ok(Some(Text::new(Vec::new(alloc))));
-    }
-    match strip_front(piece, b"a=") {
-        Some(name) => read_name(alloc, name),
-        None => Ok(None),
-    }
-}
-
 // The nonce of its piece.
 fn read_nonce(piece: &[u8]) -> Option<&[u8]>
     ensures { option_copied result ≡ nonce_read piece.now }
@@ -174,8 +115,9 @@ fn read_nonce(piece: &[u8]) -> Option<&[u8]>
     }
 }
 
-// Whether the piece says that the client supports no channel binding, or that it thinks the server doesn't.
-fn is_flag(piece: &[u8]) -> bool
+/// Whether the piece says that the client supports no channel binding, or that it thinks the server doesn't (RFC 5801,
+/// section 4: gs2-cb-flag).
+pub fn is_flag(piece: &[u8]) -> bool
     ensures { result ≡ is_some (flag_read piece.now) }
 {
     match piece {
@@ -201,7 +143,7 @@ fn are_printable(text: &[u8]) -> bool
 }
 
 fn are_extensions(extensions: Option<&[u8]>) -> bool
-    ensures { result ≡ list_all is_extension (extension_pieces (option_copied extensions.entry)) }
+    ensures { result ≡ list_all is_extension (more_pieces 44 (option_copied extensions.entry)) }
 {
     match extensions {
         None => true,

@@ -11,8 +11,10 @@ mod names;
 mod server;
 
 pub use exchange::says;
+pub use first_message::is_flag;
 pub use laws::{
     a_first_message_is_read_as_it_is_spelled, a_last_message_is_read_as_it_is_spelled,
     scram_says_one_thing, the_example_of_rfc_7677_is_right,
 };
+pub use names::read_authzid;
 pub use server::request_salt;

@@ -4,9 +4,10 @@ ghost use Rattle.std.specs.Prelude.{◌≡◌, ◌==◌, ◌++◌, not, IfOk, On
 ghost use Rattle.std.specs.List.{list_all};
 ghost use Rattle.da_scram.specs.Messages.{is_name};
 ghost use Rattle.da_scram.specs.declared.names.Escaping.TheVariants.{Plainly};
-ghost use Rattle.da_scram.specs.Reading.{next_escaping, letter_read, letters_of, name_from, name_read};
+ghost use Rattle.da_scram.specs.Reading.{next_escaping, letter_read, letters_of, name_from, name_read, authzid_read};
 
 use da_fields::Text;
+use da_tabline::strip_front;
 use std::alloc::{AllocError, Global};
 
 /// How far an escape has come.
@@ -96,6 +97,20 @@ pub(crate) fn read_name(alloc: Global, text: &[u8]) -> Result<Option<Text>, Allo
     match unescaped(alloc, text)? {
         Some(name) if is_name(&name) => Ok(Some(Text::new(name))),
         _ => Ok(None),
+    }
+}
+
+/// The authorization identity of its piece (RFC 5801, section 4: gs2-authzid), empty where there is none. `None` exactly
+/// where the piece is off its form.
+pub fn read_authzid(alloc: Global, piece: &[u8]) -> Result<Option<Text>, AllocError>
+    ensures { IfOk result (λ authzid. authzid ≡ authzid_read piece.now) }
+{
+    if piece.is_empty() {
+        return Ok(Some(Text::new(Vec::new(alloc))));
+    }
+    match strip_front(piece, b"a=") {
+        Some(name) => read_name(alloc, name),
+        None => Ok(None),
     }
 }
 

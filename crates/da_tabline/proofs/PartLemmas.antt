@@ -5,7 +5,8 @@ use Rattle.std.proofs.lemmas.Bool.{cases_Bool, eqb-true, eq-eqb}
 use Rattle.std.proofs.lemmas.List.{take-append-drop, drop_more}
 use Rattle.std.proofs.lemmas.Option.{same_Some}
 use Rattle.std.proofs.lemmas.List.Elements.{All-head, All-tail}
-use Rattle.da_base.specs.Words.{Bytes, before_byte, after_byte, after_front}
+use Rattle.std.proofs.lemmas.List.Splits.{slice_split_none, slice_split_at}
+use Rattle.da_base.specs.Words.{Bytes, before_byte, after_byte, after_front, pieces}
 use Rattle.da_tabline.specs.Parts.{Lacks, SplitsAt, IsCutAt}
 
 -- a text without the byte stands before it whole
@@ -74,3 +75,12 @@ cut_from_split byte text front back s =
 
 pub cut_from_Lacks : (byte : ℕ) (text : Bytes) → Lacks byte text → IsCutAt byte text text None
 cut_from_Lacks byte text lacks = record { before = before_byte-Lacks byte text lacks; after = after_byte-Lacks byte text lacks }
+
+-- the pieces of a text, cut at its first separator
+pub pieces-Lacks : (separator : ℕ) (text : Bytes) → Lacks separator text → pieces separator text ≡ text ∷ []
+pieces-Lacks separator text lacks = slice_split_none (λ c. eqb c separator) text lacks
+
+pub pieces-SplitsAt : (separator : ℕ) (text front back : Bytes) → SplitsAt separator text front back
+    → pieces separator text ≡ front ∷ pieces separator back
+pieces-SplitsAt separator text front back cut =
+    rw cut.whole (slice_split_at (λ c. eqb c separator) front separator back cut.first (eq-eqb separator separator refl))

@@ -21,6 +21,6 @@ pub use laws::{
 };
 pub use limits::{LONGEST_INPUT, LONGEST_LINE, LONGEST_SCRIPT_LINE};
 pub use numbers::{decimal_number, decimal_u32, number_is_decimal, printed_number_is_read};
-pub use parts::{key_and_value, split_at_byte, strip_front};
+pub use parts::{FourPieces, four_pieces, key_and_value, split_at_byte, strip_front};
 pub use pieces::fields;
 pub use spelling::{a_line_goes_on, a_written_line_is_read, push_field};

@@ -1,8 +1,21 @@
 // The parts of a text.
 
-ghost use Rattle.std.specs.Prelude.{◌≡◌, ◌++◌, ◌∷◌, [], List, ℕ, Some, None, MatchOption, option_copied};
-ghost use Rattle.da_base.specs.Words.{before_byte, after_byte, after_front, option_or_else};
-ghost use Rattle.da_tabline.specs.Parts.{Lacks, SplitsAt, IsCutAt};
+ghost use Rattle.std.specs.Prelude.{◌≡◌, ◌<◌, ◌++◌, ◌∷◌, [], List, ℕ, Some, None, MatchOption, length, option_copied};
+ghost use Rattle.da_base.specs.Words.{before_byte, after_byte, after_front, option_or_else, pieces};
+ghost use Rattle.da_tabline.specs.Parts.{Lacks, SplitsAt, IsCutAt, IsCutInFour};
+
+/// The first four pieces of a text between separators.
+#[derive(Clone, Copy, Drop)]
+pub struct FourPieces<'a> {
+    pub first: &'a [u8],
+    pub second: &'a [u8],
+    /// All that follows the second separator.
+    pub after_second: &'a [u8],
+    pub third: &'a [u8],
+    pub fourth: &'a [u8],
+    /// All that follows the fourth separator, where there is one.
+    pub more: Option<&'a [u8]>,
+}
 
 /// What stands before the first such byte, and what stands after it. `None` exactly where the byte isn't in the text.
 pub fn split_at_byte(text: &[u8], byte: u8) -> Option<(&[u8], &[u8])>
@@ -34,5 +47,39 @@ pub fn key_and_value(field: &[u8]) -> (&[u8], &[u8])
     match split_at_byte(field, b'=') {
         Some((key, value)) => (key, value),
         None => (field, &field[field.len()..]),
+    }
+}
+
+/// The first four pieces of the text between these separators. `None` exactly where there are fewer.
+pub fn four_pieces(text: &[u8], separator: u8) -> Option<FourPieces>
+    ensures { MatchOption result (length (pieces separator text.now) < 4)
+        (λ cut. IsCutInFour separator text.now cut.first.now cut.second.now cut.after_second.now cut.third.now cut.fourth.now (option_copied cut.more)) }
+{
+    let Some((first, after_first)) = split_at_byte(text, separator) else {
+        return None;
+    };
+    let Some((second, after_second)) = split_at_byte(after_first, separator) else {
+        return None;
+    };
+    let Some((third, after_third)) = split_at_byte(after_second, separator) else {
+        return None;
+    };
+    match split_at_byte(after_third, separator) {
+        None => Some(FourPieces {
+            first,
+            second,
+            after_second,
+            third,
+            fourth: after_third,
+            more: None,
+        }),
+        Some((fourth, more)) => Some(FourPieces {
+            first,
+            second,
+            after_second,
+            third,
+            fourth,
+            more: Some(more),
+        }),
     }
 }

@@ -9,10 +9,10 @@ use Rattle.std.proofs.lemmas.Slice.Eq.{bytes_eq-Decides}
 use Rattle.da_base.specs.Words.{Bytes, pieces, before_byte, after_byte, after_front}
 use Rattle.da_tabline.specs.Parts.{Lacks}
 use Rattle.da_tabline.proofs.PartLemmas.{before_byte_at, after_byte_at, after_front_some}
-use Rattle.da_scram.specs.Messages.{is_name, is_authzid, written, written_authzid}
-use Rattle.da_scram.specs.Reading.{flag_read, authzid_read, name_read}
+use Rattle.da_scram.specs.Messages.{is_authzid, written_authzid}
+use Rattle.da_scram.specs.Reading.{flag_read, authzid_read}
 use Rattle.da_scram.proofs.Commas.{Lacks-written_authzid}
-use Rattle.da_scram.proofs.NameReading.{name_read-some, name_read_written}
+use Rattle.da_scram.proofs.NameReading.{authzid_some, authzid_from}
 use Rattle.da_token.specs.declared.message.Bearer.{Bearer}
 use Rattle.da_token.specs.declared.token.Token.{Token}
 use Rattle.da_token.specs.Message.{BearerMessage, is_pair, written_pairs, auth_values, same_letters}
@@ -46,23 +46,6 @@ no_comma_flag flag h =
       | inl e ↦ let same : is_flag flag ≡ false = ap is_flag (eqb-true flag 44 e) in cc
       | inr e ↦ e
     ]) (All-nil (λ c. eqb c 44 ≡ false))
-
-named_authzid : (authzid : Bytes) → is_name authzid ≡ true → (is_authzid authzid ≡ true) × (codes "a=" ++ written authzid ≡ written_authzid authzid)
-named_authzid [] h = cc
-named_authzid (c ∷ cs) h = (h, refl)
-
-authzid_some : (text authzid : Bytes) → authzid_read text ≡ Some authzid → (is_authzid authzid ≡ true) × (text ≡ written_authzid authzid)
-authzid_some [] authzid h = let e = same_Some [] authzid h in (ap is_authzid (sym e), ap written_authzid e)
-authzid_some (c ∷ cs) authzid h =
-    option_and_then_some name_read (after_front (codes "a=") (c ∷ cs)) authzid h
-    (λ name name_is more.
-    let read = name_read-some name authzid more in
-    let is = named_authzid authzid read.0 in
-    (is.0, after_front_some (codes "a=") (c ∷ cs) name name_is ∙ ap (λ l. codes "a=" ++ l) read.1 ∙ is.1))
-
-authzid_from : (authzid : Bytes) → is_authzid authzid ≡ true → authzid_read (written_authzid authzid) ≡ Some authzid
-authzid_from [] h = refl
-authzid_from (c ∷ cs) h = name_read_written (c ∷ cs) h
 
 -- ---- the token's text
 

@@ -8,8 +8,7 @@ use Rattle.std.proofs.lemmas.List.Splits.{slice_split_at, join_with_byte-slice_s
 use Rattle.std.proofs.lemmas.Option.{same_Some}
 use Rattle.da_base.specs.Words.{Bytes, pieces, before_byte, after_byte, is_empty}
 use Rattle.da_tabline.specs.Parts.{Lacks, SplitsAt}
-use Rattle.da_tabline.proofs.PartLemmas.{before_byte_at, after_byte_at}
-use Rattle.da_schemes.proofs.Pieces.{pieces-Lacks, pieces-SplitsAt}
+use Rattle.da_tabline.proofs.PartLemmas.{before_byte_at, after_byte_at, pieces-Lacks, pieces-SplitsAt}
 use Rattle.da_token.specs.Message.{Pair, is_key, is_value, is_pair, pair_text, written_pairs, auth_values, same_letters}
 use Rattle.da_token.specs.Reading.{is_written_pair, auth_in, may_follow, found_with, auth_after}
 use Rattle.da_token.proofs.Options.{cond_option}

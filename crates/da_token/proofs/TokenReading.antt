@@ -5,11 +5,11 @@ use Rattle.std.proofs.lemmas.Bool.{eqb-true, eq-eqb, and_parts, leb-true, le-leb
 use Rattle.std.proofs.lemmas.List.Splits.{length-slice_split}
 use Rattle.std.proofs.lemmas.Slice.Eq.{bytes_eq-Decides}
 use Rattle.da_tabline.specs.Parts.{Lacks, SplitsAt}
-use Rattle.da_schemes.proofs.Pieces.{pieces-Lacks, pieces-SplitsAt}
 use Rattle.std.proofs.lemmas.Option.{same_Some, none-some, cond_some, option_and_then_some}
 use Rattle.serde_json.specs.Data.{Data, null, boolean, number, string, array, object, unsigned, negative, float}
 use Rattle.serde_json.specs.Find.{get_member, as_str}
 use Rattle.da_base.specs.Words.{Bytes, pieces, is_empty}
+use Rattle.da_tabline.proofs.PartLemmas.{pieces-Lacks, pieces-SplitsAt}
 use Rattle.da_token.specs.declared.token.Claims.{Claims}
 use Rattle.da_token.specs.declared.token.Token.{Token}
 use Rattle.da_token.specs.Json.{from_base64url, json_in, last_second, IsTextOr, IsSeconds, IsSecondsOr, text_or, second_within, seconds_of, seconds_or}

@@ -10,7 +10,6 @@ mod judging;
 mod key;
 mod laws;
 mod message;
-mod names;
 mod pairs;
 mod token;
 

@@ -1,14 +1,13 @@
 // The message of OAUTHBEARER.
 
-ghost use Rattle.std.specs.Prelude.{◌≡◌, [], ◌∷◌, IfOk, is_some, option_copied, option_map, option_and_then};
+ghost use Rattle.std.specs.Prelude.{◌≡◌, [], ◌∷◌, IfOk, option_copied, option_map, option_and_then};
 ghost use Rattle.da_base.specs.Words.{after_front};
-ghost use Rattle.da_scram.specs.Reading.{flag_read};
 ghost use Rattle.da_token.specs.Reading.{bearer_after_flag, bearer_of, bearer_read, token_after, token_read};
 
-use crate::names::read_authzid;
 use crate::pairs::token_after;
 use crate::token::{Token, read_token};
 use da_fields::Text;
+use da_scram::{is_flag, read_authzid};
 use da_tabline::{split_at_byte, strip_front};
 use std::alloc::{AllocError, Global};
 
@@ -29,13 +28,6 @@ pub(crate) fn read_bearer(alloc: Global, text: &[u8]) -> Result<Option<Bearer>, 
         Some((flag, rest)) if is_flag(flag) => read_after_flag(alloc, rest),
         _ => Ok(None),
     }
-}
-
-// Whether the client takes no part in channel binding (RFC 5801, section 4: gs2-cb-flag).
-fn is_flag(flag: &[u8]) -> bool
-    ensures { result ≡ is_some (flag_read flag.now) }
-{
-    matches!(flag, [b'n' | b'y'])
 }
 
 fn read_after_flag(alloc: Global, rest: &[u8]) -> Result<Option<Bearer>, AllocError>

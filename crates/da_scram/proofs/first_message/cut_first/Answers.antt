@@ -1,6 +1,5 @@
-use Rattle.da_scram.specs.Reading.{first_message}
+use Rattle.da_scram.proofs.FirstReading.{too_few}
 use Rattle.da_scram.proofs.first_message.cut_first.Goals as goal
 
 pub returns-in-None : goal.returns-in-None
-unfolding first_message
-returns-in-None c = c.in-None.ensures {u = tt}
+returns-in-None c = too_few c.args.text.now c.in-None.ensures
