@@ -1,3 +1,3 @@
 pub mod Expanded
 pub mod Given
-pub mod Tests
+pub mod Numbers

@@ -1,13 +1,12 @@
 -- What a cursor of a login's chain keeps.
-use Rattle.std.proofs.Common.{◌≡◌, ◌≢◌, ℕ, zero, suc, ◌+◌, ◌<◌, Bool, true, false, not, List, [], ◌∷◌, ◌++◌, Option, Some, None, drop, eqb, refl, sym, ap, subst, ◌∙◌, append_assoc, append-nil, arith}
+use Rattle.std.proofs.Common.{◌≡◌, ◌≢◌, ℕ, ◌+◌, ◌<◌, Bool, true, false, not, List, [], ◌∷◌, ◌++◌, Option, Some, None, drop, refl, sym, ap, subst, ◌∙◌, append_assoc, append-nil, arith}
 use Rattle.std.specs.Prelude.{IsTrue, slice_get, Result, Ok, Err, IfOk}
 use Rattle.std.specs.List.{list_all}
-use Rattle.std.proofs.lemmas.Bool.{eqb-true}
 use Rattle.std.proofs.lemmas.Option.{slice_get_within, same_Some}
 use Rattle.da_base.specs.Words.{Bytes, option_or_else}
-use Rattle.da_chain.proofs.Given.{answer_from-none, answer_from-own, answer_from-other}
-use Rattle.da_chain.proofs.Tests.{three_parts, both_true}
-use Rattle.da_fields.specs.Answers.{Answers, answer_from}
+use Rattle.da_chain.proofs.Given.{answer_from-given, answer_from-still}
+use Rattle.da_chain.proofs.Numbers.{all_pass, number_at}
+use Rattle.da_fields.specs.Answers.{Answers}
 use Rattle.da_fields.specs.declared.answer.Answer.{Answer}
 use Rattle.da_fields.specs.declared.answer.QueryKind.{QueryKind}
 use Rattle.da_passdb.specs.Cursors.{IsMaster, IsAhead, IsFresh, IsStandAfter, IsAlong, TellsChain, IsAsk, IsAsking, with_answer_to, TakesAnswer}
@@ -32,23 +31,7 @@ use Rattle.da_passdb.proofs.Walks.{from_database, at_database}
 -- ---- valid lists
 
 pub all_valid : (n : ℕ) (dbs : List Passdb) → are_valid_from n dbs ≡ true → list_all is_valid_passdb dbs ≡ true
-all_valid n [] valid = refl
-all_valid n (db ∷ dbs) valid =
-    let parts = three_parts (eqb db.number n) (is_valid_passdb db) (are_valid_from (suc n) dbs) valid in
-    both_true (is_valid_passdb db) (list_all is_valid_passdb dbs) parts.1 (all_valid (suc n) dbs parts.2)
-
-number_at : (n : ℕ) (dbs : List Passdb) (index : ℕ) (db : Passdb) → are_valid_from n dbs ≡ true → slice_get dbs index ≡ Some db → db.number ≡ n + index
-number_at n [] index db valid here = absurd (cc)
-number_at n (first ∷ dbs) zero db valid here =
-    let parts = three_parts (eqb first.number n) (is_valid_passdb first) (are_valid_from (suc n) dbs) valid in
-    let same : first ≡ db = same_Some first db here in
-    let is : first.number ≡ n = eqb-true first.number n parts.0 in
-    let number : db.number ≡ first.number = ap (λ d. d.number) (sym same) in
-    omega arith
-number_at n (first ∷ dbs) (suc index) db valid here =
-    let parts = three_parts (eqb first.number n) (is_valid_passdb first) (are_valid_from (suc n) dbs) valid in
-    let is : db.number ≡ suc n + index = number_at (suc n) dbs index db parts.2 here in
-    omega arith
+all_valid n dbs valid = all_pass (λ db. db.number) is_valid_passdb n dbs valid
 
 -- ---- what a place tells
 
@@ -160,9 +143,6 @@ asking_stands dbs cursor index a is =
 
 -- ---- an answer is taken
 
-without : (n number : ℕ) (answers : Answers) (a : Answer) → answer_from n answers ≡ None → number ≢ n → answer_from n (answers ++ (number, a) ∷ []) ≡ None
-without n number answers a none differ = answer_from-none n answers ((number, a) ∷ []) none ∙ answer_from-other n number a [] differ
-
 module _ (dbs : List Passdb) (answers : Answers) (index number : ℕ) (db : Passdb) (a : Answer) (is : number ≡ 1 + index) (here : slice_get dbs index ≡ Some db) where
   master_here : (n : ℕ) → number ≡ n → db.master ≡ true → IsMaster dbs n
   master_here n same master = record { index = index; db = db; number = sym same ∙ is; here = here; master = master }
@@ -172,21 +152,21 @@ module _ (dbs : List Passdb) (answers : Answers) (index number : ℕ) (db : Pass
   fresh_after first part (End how) ours further fresh = tt
   fresh_after Ordinary Ordinary (Before next) ours further fresh = λ n ahead.
       let differ : number ≢ n = λ (e : number ≡ n). absurd (omega arith) in
-      without n number answers a (fresh n (omega arith)) differ
+      answer_from-still n number answers a (fresh n (omega arith)) differ
   fresh_after Ordinary Masters (Before next) ours further fresh = absurd further
   fresh_after Ordinary AfterMasters (Before next) ours further fresh = absurd further
   fresh_after Masters Masters (Before next) ours further fresh = λ n ahead.
       let behind : IsMaster dbs n → index < n = λ m. let later : next < n = ahead m in omega arith in
       let differ : number ≢ n = λ (e : number ≡ n). let later : next < n = ahead (master_here n e ours) in absurd (omega arith) in
-      without n number answers a (fresh n behind) differ
+      answer_from-still n number answers a (fresh n behind) differ
   fresh_after Masters AfterMasters (Before next) ours further fresh = λ n ahead.
-      without n number answers a (fresh n (λ m. absurd (ahead.1 m))) (λ (e : number ≡ n). ahead.1 (master_here n e ours))
+      answer_from-still n number answers a (fresh n (λ m. absurd (ahead.1 m))) (λ (e : number ≡ n). ahead.1 (master_here n e ours))
   fresh_after Masters Ordinary (Before next) ours further fresh = absurd further
   fresh_after AfterMasters AfterMasters (Before next) ours further fresh = λ n ahead.
       let later : next < n = ahead.0 in
       let differ : number ≢ n = λ (e : number ≡ n). absurd (omega arith) in
       let behind : index < n = omega arith in
-      without n number answers a (fresh n (behind, ahead.1)) differ
+      answer_from-still n number answers a (fresh n (behind, ahead.1)) differ
   fresh_after AfterMasters Ordinary (Before next) ours further fresh = absurd further
   fresh_after AfterMasters Masters (Before next) ours further fresh = absurd further
 
@@ -210,7 +190,7 @@ stands_after : (part : Part) (place : Place) (dbs : List Passdb) (login : Login)
     → IsFresh part place dbs answers → StandsAt part place dbs login [] p → StandsAt part place dbs login answers p
 stands_after part (Before index) dbs login answers p valid fresh s =
     let ours : is_of part s.0 ≡ true = asked_is_of part s.0 login p s.2.asks in
-    (s.0, s.1, record { asks = s.2.asks; is_open = fresh s.0.number (ahead_here part dbs index s.0 (number_at 1 dbs index s.0 valid s.1) s.1 ours) })
+    (s.0, s.1, record { asks = s.2.asks; is_open = fresh s.0.number (ahead_here part dbs index s.0 (number_at (λ d. d.number) is_valid_passdb 1 dbs index s.0 valid s.1) s.1 ours) })
 stands_after part (End how) dbs login answers p valid fresh s = tt
 
 takes_at : (dbs : List Passdb) (login : Login) (answers : Answers) (part : Part) (index : ℕ) (p : Progress) (a : Answer) (after : Stand)
@@ -219,16 +199,13 @@ takes_at : (dbs : List Passdb) (login : Login) (answers : Answers) (part : Part)
     → Stands after dbs login [] → IsFurther part (index + 1) after.part after.place → IsStandAfter dbs login (answers ++ (s.0.number, a) ∷ []) after
 takes_at dbs login answers part index p a after valid rest s fresh goes is_there further =
     let one = (s.0.number, a) ∷ [] in
-    let number : s.0.number ≡ 1 + index = number_at 1 dbs index s.0 valid s.1 in
+    let number : s.0.number ≡ 1 + index = number_at (λ d. d.number) is_valid_passdb 1 dbs index s.0 valid s.1 in
     let later : IsFresh after.part after.place dbs (answers ++ one) =
     fresh_after dbs answers index s.0.number s.0 a number s.1 part after.part after.place (asked_is_of part s.0 login p s.2.asks) further fresh
     in
     record {
       rest = λ more.
-          let given : answer_from s.0.number ((answers ++ one) ++ more) ≡ Some a =
-          ap (answer_from s.0.number) (append_assoc answers one more) ∙ answer_from-none s.0.number answers (one ++ more) s.2.is_open
-          ∙ answer_from-own s.0.number a more
-          in
+          let given = answer_from-given s.0.number answers more a s.2.is_open in
           goes s.0 ((answers ++ one) ++ more) s.1 given
           ∙ subst (λ l. chain_from part index dbs login l p ≡ login_chain dbs login l) (sym (append_assoc answers one more)) (rest (one ++ more));
       is_there = stands_after after.part after.place dbs login (answers ++ one) after.progress valid later is_there;

@@ -1,11 +1,12 @@
 -- The chain of password databases: what a login asks next, or its verdict, from the answers so far.
-use Rattle.std.specs.Prelude.{ℕ, suc, Bool, true, false, ◌&&◌, ◌||◌, not, List, [], ◌∷◌, filter, Option, Some, None, if◌then◌else◌, ◌==◌, codes, is_some}
+use Rattle.std.specs.Prelude.{ℕ, Bool, true, false, ◌&&◌, ◌||◌, not, List, [], ◌∷◌, filter, Option, Some, None, if◌then◌else◌, codes, is_some}
 use Rattle.std.specs.List.{list_all}
 use Rattle.da_base.specs.Words.{Bytes}
 use Rattle.da_fields.specs.FieldList.{field, merge}
 use Rattle.da_fields.specs.Answers.{Answers, answer_from, answer_fields, is_success, rule_for}
 use Rattle.da_names.specs.Filters.{filter_matches}
 use Rattle.da_names.specs.Templates.{expand_fields, is_template_field}
+use Rattle.da_chain.specs.Numbering.{are_numbered}
 use Rattle.da_schemes.specs.Stored.{StoredPassword, stored_password}
 use Rattle.da_fields.specs.declared.answer.Answer.{Answer}
 use Rattle.da_fields.specs.declared.answer.Answer.TheVariants.{Found, Mismatch as Mismatched, Unknown as NotKnown, Internal as Failed}
@@ -36,8 +37,7 @@ is_valid_passdb db = list_all is_template_field db.default_fields && list_all is
 
 -- each is valid, and their numbers are n and so on, in order
 abbrev pub are_valid_from : ℕ → List Passdb → Bool
-are_valid_from n [] = true
-are_valid_from n (db ∷ dbs) = (db.number == n) && is_valid_passdb db && are_valid_from (suc n) dbs
+are_valid_from n dbs = are_numbered (λ db. db.number) is_valid_passdb n dbs
 
 abbrev pub are_valid_passdbs : List Passdb → Bool
 are_valid_passdbs dbs = are_valid_from 1 dbs

@@ -1,15 +1,14 @@
 -- What a cursor of user databases keeps.
-use Rattle.std.proofs.Common.{◌≡◌, ◌≢◌, ℕ, zero, suc, ◌+◌, Bool, true, false, List, [], ◌∷◌, ◌++◌, Option, Some, drop, cond, eqb, refl, sym, ap, subst, ◌∙◌, append_assoc, append-nil, arith}
-use Rattle.std.specs.Prelude.{IsTrue, slice_get, Result, Ok, Err, IfOk}
+use Rattle.std.proofs.Common.{◌≡◌, ◌≢◌, ℕ, ◌+◌, Bool, true, false, List, [], ◌∷◌, ◌++◌, Option, drop, cond, refl, sym, ap, subst, ◌∙◌, append_assoc, append-nil, arith}
+use Rattle.std.specs.Prelude.{IsTrue, Result, Ok, Err, IfOk}
 use Rattle.std.specs.List.{list_all}
-use Rattle.std.proofs.lemmas.Bool.{eqb-true}
-use Rattle.std.proofs.lemmas.Option.{slice_get_within, same_Some}
+use Rattle.std.proofs.lemmas.Option.{slice_get_within}
 use Rattle.da_base.specs.Words.{option_or_else}
-use Rattle.da_fields.specs.Answers.{Answers, answer_from}
+use Rattle.da_fields.specs.Answers.{Answers}
 use Rattle.da_fields.specs.FieldList.{Pairs}
 use Rattle.da_fields.specs.declared.answer.Answer.{Answer}
-use Rattle.da_chain.proofs.Given.{answer_from-none, answer_from-own, answer_from-other}
-use Rattle.da_chain.proofs.Tests.{three_parts, both_true}
+use Rattle.da_chain.proofs.Given.{answer_from-given, answer_from-still}
+use Rattle.da_chain.proofs.Numbers.{all_pass, number_at}
 use Rattle.da_userdb.specs.UserChain.{are_valid_from, are_valid_userdbs, is_valid_userdb, no_user_progress, user_end, user_move, user_continued, user_walk, user_chain}
 use Rattle.da_userdb.specs.UserPlaces.{walk_from, told_at, Stands, IsFrom, IsWithin, GoesOnWith}
 use Rattle.da_userdb.specs.UserCursors.{IsFresh, IsPlaceAfter, IsAlong, TellsChain, IsAsk, IsAsking, with_answer_to, TakesAnswer}
@@ -26,23 +25,7 @@ use Rattle.da_userdb.proofs.UserWalks.{at_database}
 -- ---- valid lists
 
 pub all_valid : (n : ℕ) (dbs : List Userdb) → are_valid_from n dbs ≡ true → list_all is_valid_userdb dbs ≡ true
-all_valid n [] valid = refl
-all_valid n (db ∷ dbs) valid =
-    let parts = three_parts (eqb db.number n) (is_valid_userdb db) (are_valid_from (suc n) dbs) valid in
-    both_true (is_valid_userdb db) (list_all is_valid_userdb dbs) parts.1 (all_valid (suc n) dbs parts.2)
-
-number_at : (n : ℕ) (dbs : List Userdb) (index : ℕ) (db : Userdb) → are_valid_from n dbs ≡ true → slice_get dbs index ≡ Some db → db.number ≡ n + index
-number_at n [] index db valid here = absurd (cc)
-number_at n (first ∷ dbs) zero db valid here =
-    let parts = three_parts (eqb first.number n) (is_valid_userdb first) (are_valid_from (suc n) dbs) valid in
-    let same : first ≡ db = same_Some first db here in
-    let is : first.number ≡ n = eqb-true first.number n parts.0 in
-    let number : db.number ≡ first.number = ap (λ d. d.number) (sym same) in
-    omega arith
-number_at n (first ∷ dbs) (suc index) db valid here =
-    let parts = three_parts (eqb first.number n) (is_valid_userdb first) (are_valid_from (suc n) dbs) valid in
-    let is : db.number ≡ suc n + index = number_at (suc n) dbs index db parts.2 here in
-    omega arith
+all_valid n dbs valid = all_pass (λ db. db.number) is_valid_userdb n dbs valid
 
 -- ---- what a place tells
 
@@ -133,13 +116,13 @@ fresh_after : (place : UserPlace) (answers : Answers) (index number : ℕ) (a : 
     → IsFresh place (answers ++ (number, a) ∷ [])
 fresh_after (Before next) answers index number a from is fresh = λ n later.
     let differ : number ≢ n = λ (e : number ≡ n). absurd (omega arith) in
-    answer_from-none n answers ((number, a) ∷ []) (fresh n (omega arith)) ∙ answer_from-other n number a [] differ
+    answer_from-still n number answers a (fresh n (omega arith)) differ
 fresh_after End answers index number a from is fresh = tt
 
 stands_after : (place : UserPlace) (dbs : List Userdb) (lookup : Lookup) (answers : Answers) (p : UserProgress) → IsTrue (are_valid_userdbs dbs) → IsFresh place answers
     → Stands place dbs lookup [] p → Stands place dbs lookup answers p
 stands_after (Before index) dbs lookup answers p valid fresh s =
-    let number : s.0.number ≡ 1 + index = number_at 1 dbs index s.0 valid s.1 in
+    let number : s.0.number ≡ 1 + index = number_at (λ d. d.number) is_valid_userdb 1 dbs index s.0 valid s.1 in
     (s.0, s.1, record { asks = s.2.asks; is_open = fresh s.0.number (omega arith) })
 stands_after End dbs lookup answers p valid fresh s = tt
 
@@ -150,13 +133,10 @@ takes_at : (dbs : List Userdb) (lookup : Lookup) (answers : Answers) (index : �
 takes_at dbs lookup answers index p a place q valid s goes is_there from =
     let db = s.is_there.0 in
     let one = (db.number, a) ∷ [] in
-    let fresh : IsFresh place (answers ++ one) = fresh_after place answers index db.number a from (number_at 1 dbs index db valid s.is_there.1) s.fresh in
+    let fresh : IsFresh place (answers ++ one) = fresh_after place answers index db.number a from (number_at (λ d. d.number) is_valid_userdb 1 dbs index db valid s.is_there.1) s.fresh in
     record {
       rest = λ more.
-          let given : answer_from db.number ((answers ++ one) ++ more) ≡ Some a =
-          ap (answer_from db.number) (append_assoc answers one more) ∙ answer_from-none db.number answers (one ++ more) s.is_there.2.is_open
-          ∙ answer_from-own db.number a more
-          in
+          let given = answer_from-given db.number answers more a s.is_there.2.is_open in
           goes db ((answers ++ one) ++ more) s.is_there.1 given
           ∙ subst (λ l. user_walk (drop index dbs) lookup l p ≡ user_chain dbs lookup l) (sym (append_assoc answers one more)) (s.rest (one ++ more));
       is_there = stands_after place dbs lookup (answers ++ one) q valid fresh is_there;

@@ -1,10 +1,11 @@
 -- The chain of user databases: what a lookup asks next, or what it finds, from the answers so far.
-use Rattle.std.specs.Prelude.{ℕ, suc, Bool, true, false, ◌&&◌, not, List, [], ◌∷◌, Option, Some, None, if◌then◌else◌, ◌==◌}
+use Rattle.std.specs.Prelude.{ℕ, Bool, true, false, ◌&&◌, not, List, [], ◌∷◌, Option, Some, None, if◌then◌else◌}
 use Rattle.std.specs.List.{list_all}
 use Rattle.da_base.specs.Words.{is_empty}
 use Rattle.da_fields.specs.FieldList.{Pairs, merge, userdb_part}
 use Rattle.da_fields.specs.Answers.{Answers, answer_from, answer_fields, fits, rule_for}
 use Rattle.da_names.specs.Templates.{expand_fields, is_template_field}
+use Rattle.da_chain.specs.Numbering.{are_numbered}
 use Rattle.da_fields.specs.declared.answer.Answer.{Answer}
 use Rattle.da_fields.specs.declared.answer.Answer.TheVariants.{Found as FoundRow, Unknown as NotKnown}
 use Rattle.da_fields.specs.declared.answer.QueryKind.TheVariants.{User}
@@ -31,8 +32,7 @@ is_valid_userdb db = list_all is_template_field db.default_fields && list_all is
 
 -- each is valid, and their numbers are n and so on, in order
 abbrev pub are_valid_from : ℕ → List Userdb → Bool
-are_valid_from n [] = true
-are_valid_from n (db ∷ dbs) = (db.number == n) && is_valid_userdb db && are_valid_from (suc n) dbs
+are_valid_from n dbs = are_numbered (λ db. db.number) is_valid_userdb n dbs
 
 abbrev pub are_valid_userdbs : List Userdb → Bool
 are_valid_userdbs dbs = are_valid_from 1 dbs
