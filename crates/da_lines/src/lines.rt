@@ -194,14 +194,10 @@ fn client_line_meaning(
     ensures { IfOk result (λ o. (settings : Settings) (moment : ℕ) (random : Bytes) → after_meaning settings moment conn random o tables.now ≡ client_line settings moment conn random connection.now (client_message text.now) tables.now) }
 {
     match ClientMsg::read(alloc, text)? {
-        Some(message) => {
-            if tables.client_may(conn, connection, &message) {
-                Ok(LineMeaning::Client(message))
-            } else {
-                Ok(LineMeaning::Closes)
-            }
+        Some(message) if tables.client_may(conn, connection, &message) => {
+            Ok(LineMeaning::Client(message))
         }
-        None => Ok(LineMeaning::Closes),
+        _ => Ok(LineMeaning::Closes),
     }
 }
 
@@ -217,14 +213,10 @@ fn master_line_meaning(
     ensures { IfOk result (λ o. (settings : Settings) (moment : ℕ) (random : Bytes) → after_meaning settings moment conn random o tables.now ≡ master_line settings moment conn random connection.now (master_message text.now) tables.now) }
 {
     match MasterMsg::read(alloc, text)? {
-        Some(message) => {
-            if tables.master_may(conn, connection, &message) {
-                Ok(LineMeaning::Master(message))
-            } else {
-                Ok(LineMeaning::Closes)
-            }
+        Some(message) if tables.master_may(conn, connection, &message) => {
+            Ok(LineMeaning::Master(message))
         }
-        None => Ok(LineMeaning::Closes),
+        _ => Ok(LineMeaning::Closes),
     }
 }
 
