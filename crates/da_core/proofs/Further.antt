@@ -1,5 +1,5 @@
 -- What is kept beside a history with one entry more.
-use Rattle.std.proofs.Common.{◌≡◌, sym, ◌∙◌, ap, ap₂, reverse, Option, ◌+◌, ◌-◌, List, [], ◌∷◌, ◌++◌, ℕ, ◌≤◌, ◌<◌, length, map, arith, subst}
+use Rattle.std.proofs.Common.{◌≡◌, sym, ◌∙◌, ap, ap₂, reverse, Option, List, [], ◌∷◌, ◌++◌, ℕ, ◌≤◌, ◌<◌, length, map, arith, subst}
 use Rattle.std.proofs.lemmas.List.{reverse-append, length-reverse}
 use Rattle.da_base.specs.Words.{Bytes}
 use Rattle.da_core.specs.Bridges.{IsKept, IsNextOf, next_due}

@@ -1,5 +1,5 @@
 -- What is told of a history is what was kept beside it.
-use Rattle.std.proofs.Common.{◌≡◌, sym, ◌∙◌, ap, ap₂, subst, List, ℕ, Bool, ◌||◌, Option, is_some, reverse, map}
+use Rattle.std.proofs.Common.{◌≡◌, ◌∙◌, ap, ap₂, subst, List, ℕ, Bool, ◌||◌, Option, is_some, reverse}
 use Rattle.std.specs.List.{list_any}
 use Rattle.da_base.specs.Words.{Bytes}
 use Rattle.da_core.proofs.NextDues.{one_is_told, one_is_awaited}
@@ -10,11 +10,9 @@ use Rattle.da_entry.specs.declared.replayed.Replayed.{Replayed}
 use Rattle.da_play.specs.Legal.{entry_moment}
 use Rattle.da_play.specs.Served.{Served}
 use Rattle.da_play.specs.declared.input.Entry.{Entry}
-use Rattle.da_request.specs.declared.request.Request.{Request}
 use Rattle.da_settings.specs.declared.settings.Goal.{Goal}
 use Rattle.da_settings.specs.declared.settings.Settings.{Settings}
 use Rattle.da_tables.specs.Queries.{is_running}
-use Rattle.da_tables.specs.declared.tables.Tables.{Tables}
 
 abbrev as_due : Bool → Option ℕ → Due
 as_due reply query = record { reply = reply; query = query }

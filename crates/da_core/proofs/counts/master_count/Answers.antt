@@ -1,5 +1,4 @@
-use Rattle.std.proofs.Common.{◌∙◌, sym, rules}
-use Rattle.std.proofs.lemmas.Grind.{common_steps}
+use Rattle.std.proofs.Common.{rules}
 use Rattle.da_tables.proofs.RowChanges.{count_where_is}
 use Rattle.da_core.proofs.counts.master_count.Goals as goal
 

@@ -1,4 +1,4 @@
-use Rattle.std.proofs.Common.{◌∙◌, ◌<◌, ap, sym, subst, length, reverse, List, ℕ}
+use Rattle.std.proofs.Common.{◌∙◌, ◌<◌, ap, sym, subst, length, reverse, List}
 use Rattle.std.specs.List.{list_any}
 use Rattle.da_core.proofs.Further.{rows_of}
 use Rattle.da_core.proofs.Told.{due_is}
