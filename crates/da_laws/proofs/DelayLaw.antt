@@ -1,9 +1,8 @@
 -- How long final replies are held back, from the laws on what is due.
-use Rattle.std.proofs.Common.{◌≡◌, ◌⊎◌, inl, inr, refl, sym, ◌∙◌, ap, ap₂, subst, Option, Some, None, List, [], ◌∷◌, ℕ, zero, suc, ◌≤◌, Bool, true, false, cond, not, ◌&&◌, ◌||◌, nat_le, option_map, if◌then◌else◌, is_some, true≢false, arith}
+use Rattle.std.proofs.Common.{◌≡◌, ◌⊎◌, inl, inr, refl, sym, ◌∙◌, ap, ap₂, subst, Option, Some, None, List, ◌∷◌, ℕ, ◌≤◌, Bool, true, false, cond, not, ◌&&◌, nat_le, option_map, if◌then◌else◌, is_some, true≢false, arith}
 use Rattle.da_msgs.specs.declared.code.Code.{Code}
-use Rattle.std.specs.List.{list_any}
 use Rattle.std.proofs.lemmas.Bool.Decides.{nat_tests}
-use Rattle.std.proofs.lemmas.Option.{none-some, same_Some}
+use Rattle.std.proofs.lemmas.Option.{same_Some}
 use Rattle.da_base.specs.Words.{Bytes, later, nth, passes_option}
 use Rattle.da_settings.specs.declared.settings.Settings.{Settings}
 use Rattle.da_request.specs.declared.stages.Decision.TheVariants.{Failure}
@@ -12,7 +11,7 @@ use Rattle.da_request.specs.Requests.{decision, due_from, has_nodelay, is_failur
 use Rattle.da_laws.specs.DelayLaws.{FailuresWait, NoneWaitsLonger, OthersAreToldAtOnce}
 use Rattle.da_invariants.proofs.Marks.{history_marked}
 use Rattle.da_tables.proofs.Cases.{by_test}
-use Rattle.da_laws.proofs.DueLaw.{nothing_due_is_left}
+use Rattle.da_laws.proofs.DueLaw.{all_rest}
 use Rattle.da_laws.proofs.ReplyDue.{replies_are_due}
 use Rattle.da_play.specs.History.{tables_of}
 use Rattle.da_play.specs.declared.input.Entry.{Entry}
@@ -71,20 +70,6 @@ failures_wait settings e g n r user authz temp disabled code reason reported her
 
 -- ---- nothing is left
 
-none_at : (comparison : Request → Bool) (rs : List Request) (n : ℕ) (r : Request) → list_any comparison rs ≡ false → nth rs n ≡ Some r → comparison r ≡ false
-none_at comparison rs zero r e here = absurd (none-some r here)
-none_at comparison [] (suc n) r e here = absurd (none-some r here)
-none_at comparison (s ∷ rs) (suc zero) r e here = subst (λ x. comparison x ≡ false) (same_Some s r here) (first (comparison s) (list_any comparison rs) e)
-  where
-    first : (a b : Bool) → (a || b) ≡ false → a ≡ false
-    first true b e = absurd (true≢false e)
-    first false b e = refl
-none_at comparison (s ∷ rs) (suc (suc n)) r e here = none_at comparison rs (suc n) r (rest (comparison s) (list_any comparison rs) e) here
-  where
-    rest : (a b : Bool) → (a || b) ≡ false → b ≡ false
-    rest true b e = absurd (true≢false e)
-    rest false b e = e
-
 -- a request that isn't due, though its moment has come, has its reply
 was_told : (settings : Settings) (moment decided : ℕ) (r : Request) → is_due settings moment r ≡ false → r.decided ≡ Some decided → r.is_cancelled ≡ false → r.is_timed_out ≡ false →
     later decided (reply_delay settings r) ≤ moment → is_some r.replied ≡ true
@@ -113,7 +98,7 @@ told_by settings e g n decided r here at stays in_time = go r.is_timed_out refl
   where
     go : (b : Bool) → r.is_timed_out ≡ b → is_some r.replied ≡ true
     go true t = (history_marked settings (e ∷ g) n r here).replied t
-    go false t = was_told settings e.moment decided r (none_at _ _ n r (nothing_due_is_left settings e g) here) at stays t (in_time t)
+    go false t = was_told settings e.moment decided r (all_rest settings e g n r here) at stays t (in_time t)
 
 later_within : (decided a b moment : ℕ) → a ≤ b → later decided b ≤ moment → later decided a ≤ moment
 later_within decided a b moment h k = omega (arith, h, k)

@@ -1,3 +1,4 @@
 pub mod EntryInduction
 pub mod EntryParts
 pub mod FewRows
+pub mod RequestParts
