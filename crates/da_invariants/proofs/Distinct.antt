@@ -4,8 +4,7 @@ use Rattle.std.proofs.lemmas.Bool.{eqb-true}
 use Rattle.std.proofs.lemmas.Option.{none-some, same_Some}
 use Rattle.da_invariants.proofs.AsksNew.{asks_new}
 use Rattle.da_tables.proofs.Cases.{by_test, and_second, not_true}
-use Rattle.da_play.proofs.EntryInduction.{ContinuedUndecided}
-use Rattle.da_play.proofs.EntryParts.{InputParts, ContinuedParts, IsSound, sound_input, before_gives, continued_gives}
+use Rattle.da_play.proofs.EntryParts.{InputParts, ContinuedParts, ContinuedUndecided, IsSound, sound_input, before_gives, continued_gives}
 use Rattle.da_invariants.proofs.Keys.{keys_equal}
 use Rattle.da_invariants.proofs.KeysLaw.{newest_has}
 use Rattle.da_invariants.proofs.KnownHits.{usable_known, known_stays}

@@ -1,5 +1,5 @@
 -- What is done stays, whatever comes later.
-use Rattle.std.proofs.Common.{◌≡◌, refl, sym, ◌∙◌, ap, Option, Some, List, [], ◌∷◌, ◌++◌, ℕ, zero, suc, Bool, true, false, codes, if◌then◌else◌, option_map, slice_get, ◌||◌, true≢false}
+use Rattle.std.proofs.Common.{◌≡◌, refl, sym, ◌∙◌, ap, Option, Some, List, [], ◌∷◌, ◌++◌, ℕ, zero, suc, Bool, true, false, codes, if◌then◌else◌, is_some, option_map, slice_get, ◌||◌, true≢false}
 use Rattle.da_msgs.specs.declared.code.Code.TheVariants.{Timeout}
 use Rattle.std.specs.List.{list_any}
 use Rattle.std.proofs.lemmas.Option.{none-some, same_Some}
@@ -8,6 +8,7 @@ use Rattle.da_tables.specs.Connections.{is_used}
 use Rattle.da_play.specs.History.{tables_of}
 use Rattle.da_request.specs.Requests.{is_granted_for, decision, decision_in, request_stage, timed_failure}
 use Rattle.da_invariants.proofs.SameStage.{same_login, same_stage}
+use Rattle.da_settings.specs.declared.settings.Settings.{Settings}
 use Rattle.da_passdb.specs.declared.login.Login.{Login}
 use Rattle.da_request.specs.declared.request.Request.{Request}
 use Rattle.da_request.specs.declared.stages.Decision.{Decision}
@@ -63,18 +64,21 @@ abbrev timed_failure_for : Option Login → Decision
 timed_failure_for login = Failure (option_map (λ l. l.user) login) false false false Timeout (Some (codes "Timed out"))
 
 -- what is decided by its limit is told for the same user, and what is decided by its stage has the same stage
-pub decisions_stand : DecisionsStand
+pub same_decision : (settings : Settings) (r s : Request) → RequestStands r s → is_some r.decided ≡ true → decision settings s ≡ decision settings r
 unfolding decision
-decisions_stand settings newer h n r e d =
-    let later : (s : Request) × (nth (tables_of settings (newer ++ h)).requests n ≡ Some s) × RequestStands r s = (what_is_done_stands settings newer h).requests n r e in
-    (later.0, later.1, by_mark later.0 later.2 r.is_timed_out refl)
+same_decision settings r s k d = go r.is_timed_out refl
   where
-    by_mark : (s : Request) → RequestStands r s → (b : Bool) → r.is_timed_out ≡ b → decision settings s ≡ decision settings r
-    by_mark s k true t =
+    go : (b : Bool) → r.is_timed_out ≡ b → decision settings s ≡ decision settings r
+    go true t =
         ap (λ (b : Bool). if b then Some (timed_failure settings s) else decision_in (request_stage settings s)) (k.timed_out d ∙ t)
         ∙ ap (λ l. Some (timed_failure_for l)) (same_login settings r s k.random k.start (k.body d))
         ∙ sym (ap (λ (b : Bool). if b then Some (timed_failure settings r) else decision_in (request_stage settings r)) t)
-    by_mark s k false t =
+    go false t =
         ap (λ (b : Bool). if b then Some (timed_failure settings s) else decision_in (request_stage settings s)) (k.timed_out d ∙ t)
         ∙ ap decision_in (same_stage settings r s k.random k.start (k.body d) (k.answers d t))
         ∙ sym (ap (λ (b : Bool). if b then Some (timed_failure settings r) else decision_in (request_stage settings r)) t)
+
+pub decisions_stand : DecisionsStand
+decisions_stand settings newer h n r e d =
+    let later : (s : Request) × (nth (tables_of settings (newer ++ h)).requests n ≡ Some s) × RequestStands r s = (what_is_done_stands settings newer h).requests n r e in
+    (later.0, later.1, same_decision settings r later.0 later.2 d)

@@ -1,5 +1,5 @@
 -- How long final replies are held back, from the laws on what is due.
-use Rattle.std.proofs.Common.{◌≡◌, ◌⊎◌, inl, inr, refl, sym, ◌∙◌, ap, ap₂, subst, Option, Some, None, List, ◌∷◌, ℕ, ◌≤◌, Bool, true, false, cond, not, ◌&&◌, nat_le, option_map, if◌then◌else◌, is_some, true≢false, arith}
+use Rattle.std.proofs.Common.{◌≡◌, ◌⊎◌, inl, inr, refl, sym, ◌∙◌, ap, ap₂, subst, Option, Some, None, List, ◌∷◌, ℕ, ◌≤◌, Bool, true, false, cond, not, ◌&&◌, nat_le, option_map, is_some, true≢false, arith}
 use Rattle.da_msgs.specs.declared.code.Code.{Code}
 use Rattle.std.proofs.lemmas.Bool.Decides.{nat_tests}
 use Rattle.std.proofs.lemmas.Option.{same_Some}
@@ -7,11 +7,11 @@ use Rattle.da_base.specs.Words.{Bytes, later, nth, passes_option}
 use Rattle.da_settings.specs.declared.settings.Settings.{Settings}
 use Rattle.da_request.specs.declared.stages.Decision.TheVariants.{Failure}
 use Rattle.da_request.specs.declared.request.Request.{Request}
-use Rattle.da_request.specs.Requests.{decision, due_from, has_nodelay, is_failure, limit_moment, reply_delay, due_moment, is_held, is_due}
+use Rattle.da_request.specs.Requests.{decision, due_from, has_nodelay, is_failure, reply_delay, due_moment, is_held, is_due}
 use Rattle.da_laws.specs.DelayLaws.{FailuresWait, NoneWaitsLonger, OthersAreToldAtOnce}
 use Rattle.da_invariants.proofs.Marks.{history_marked}
 use Rattle.da_tables.proofs.Cases.{by_test}
-use Rattle.da_laws.proofs.DueLaw.{all_rest}
+use Rattle.da_laws.proofs.DueLaw.{all_rest, due_after}
 use Rattle.da_laws.proofs.ReplyDue.{replies_are_due}
 use Rattle.da_play.specs.History.{tables_of}
 use Rattle.da_play.specs.declared.input.Entry.{Entry}
@@ -49,10 +49,6 @@ others_rush settings r (inr e) =
     never false = refl
 
 -- ---- a reply in time
-
--- the reply to a request that wasn't timed out is due after its delay
-due_after : (settings : Settings) (r : Request) (decided : ℕ) → r.is_timed_out ≡ false → due_from settings r decided ≡ later decided (reply_delay settings r)
-due_after settings r decided t = ap (λ (b : Bool). if b then limit_moment settings r else later decided (reply_delay settings r)) t
 
 decided_in_time : (settings : Settings) (moment : ℕ) (r : Request) → r.is_timed_out ≡ false → (o : Option ℕ) → passes_option (λ m. nat_le m moment) (option_map (due_from settings r) o) ≡ true →
     (decided : ℕ) × (o ≡ Some decided) × (later decided (reply_delay settings r) ≤ moment)

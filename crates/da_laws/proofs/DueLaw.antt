@@ -1,13 +1,16 @@
 -- After an entry no reply that is due is left over.
-use Rattle.std.proofs.Common.{◌≡◌, refl, sym, ◌∙◌, ap, Option, Some, None, option_map, if◌then◌else◌, List, ◌∷◌, ℕ, Bool, true, false, cond, not, ◌&&◌, is_some, true≢false, nat_le}
+use Rattle.std.proofs.Common.{◌≡◌, refl, sym, ◌∙◌, ap, ap₂, Option, Some, None, option_map, if◌then◌else◌, List, ◌∷◌, ℕ, Bool, true, false, cond, not, ◌&&◌, is_some, true≢false, nat_le}
 use Rattle.da_tables.proofs.Cases.{by_test, and_second, not_true}
+use Rattle.da_invariants.proofs.Standing.{same_decision}
+use Rattle.da_steps.proofs.Standing.{is_there}
+use Rattle.da_steps.specs.Standing.{RequestStands}
 use Rattle.da_play.proofs.RequestParts.{EachKeeps, EachRow, each_before, each_later, no_row_passes}
 use Rattle.da_base.specs.Words.{later, passes_option}
 use Rattle.da_fields.specs.declared.answer.Answer.{Answer}
 use Rattle.da_play.specs.History.{before_input, tables_of}
 use Rattle.da_request.specs.Requests.{new_request, with_answer}
 use Rattle.da_laws.specs.ReplyLaws.{NothingDueIsLeft}
-use Rattle.da_request.specs.Requests.{is_due, is_held, due_from, due_moment, is_undecided, limit_moment, reply_delay}
+use Rattle.da_request.specs.Requests.{has_nodelay, is_due, is_failure, is_held, due_from, due_moment, is_undecided, limit_moment, reply_delay}
 use Rattle.da_play.specs.declared.input.Entry.{Entry}
 use Rattle.da_play.specs.declared.input.Input.{Input}
 use Rattle.da_settings.specs.declared.settings.Settings.{Settings}
@@ -51,7 +54,28 @@ answered_now settings moment r = by_test (λ s. is_due settings moment s ≡ fal
 pub due_at_limit : (settings : Settings) (r : Request) (decided : ℕ) → r.is_timed_out ≡ true → due_from settings r decided ≡ limit_moment settings r
 due_at_limit settings r decided t = ap (λ (b : Bool). if b then limit_moment settings r else later decided (reply_delay settings r)) t
 
-pub answered_due : (settings : Settings) (db : ℕ) (answer : Answer) (r : Request) → r.is_timed_out ≡ true → (o : Option ℕ) → option_map (due_from settings (with_answer db answer r)) o ≡ option_map (due_from settings r) o
+-- the reply to a request that wasn't timed out is due after its delay
+pub due_after : (settings : Settings) (r : Request) (decided : ℕ) → r.is_timed_out ≡ false → due_from settings r decided ≡ later decided (reply_delay settings r)
+due_after settings r decided t = ap (λ (b : Bool). if b then limit_moment settings r else later decided (reply_delay settings r)) t
+
+-- what is decided stays due at the same moment
+pub same_due : (settings : Settings) (r s : Request) → RequestStands r s → is_some r.decided ≡ true → due_moment settings s ≡ due_moment settings r
+unfolding reply_delay
+same_due settings r s k d = go r.is_timed_out refl
+  where
+    noted : (m : ℕ) × (r.decided ≡ Some m)
+    noted = is_there r.decided d
+
+    by_moment : due_from settings s noted.0 ≡ due_from settings r noted.0 → due_moment settings s ≡ due_moment settings r
+    by_moment e = ap (option_map (due_from settings s)) (k.decided noted.0 noted.1) ∙ ap (λ (m : ℕ). Some m) e ∙ sym (ap (option_map (due_from settings r)) noted.1)
+
+    go : (b : Bool) → r.is_timed_out ≡ b → due_moment settings s ≡ due_moment settings r
+    go true t = by_moment (due_at_limit settings s noted.0 (k.timed_out d ∙ t) ∙ ap (λ (start : ℕ). later start settings.request_limit) k.start ∙ sym (due_at_limit settings r noted.0 t))
+    go false t = by_moment (due_after settings s noted.0 (k.timed_out d ∙ t)
+        ∙ ap (later noted.0) (ap₂ (λ o a. cond (passes_option is_failure o && not (has_nodelay a)) settings.failure_delay 0) (same_decision settings r s k d) (k.answers d t))
+        ∙ sym (due_after settings r noted.0 t))
+
+answered_due : (settings : Settings) (db : ℕ) (answer : Answer) (r : Request) → r.is_timed_out ≡ true → (o : Option ℕ) → option_map (due_from settings (with_answer db answer r)) o ≡ option_map (due_from settings r) o
 answered_due settings db answer r t None = refl
 answered_due settings db answer r t (Some d) = ap (λ (m : ℕ). Some m) (due_at_limit settings (with_answer db answer r) d t ∙ sym (due_at_limit settings r d t))
 

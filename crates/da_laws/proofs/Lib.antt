@@ -3,7 +3,6 @@ pub mod ComparisonLaw
 pub mod Decisions
 pub mod DelayLaw
 pub mod DueLaw
-pub mod Entries
 pub mod FreshLaw
 pub mod GrantLaw
 pub mod GrantStands

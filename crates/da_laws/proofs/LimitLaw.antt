@@ -1,15 +1,12 @@
 -- Clients' requests are timed out at their limit, and told so once.
-use Rattle.std.proofs.Common.{◌≡◌, refl, sym, ◌∙◌, ap, subst, Option, Some, None, List, [], ◌∷◌, ℕ, ◌+◌, ◌<◌, Bool, true, false, cond, is_some, map, not, ◌&&◌, ◌||◌, ◌==◌, if◌then◌else◌, nat_le, option_map, option_to_list, true≢false, ne_eqb, zero-add, arith}
-use Rattle.std.specs.List.{list_any}
+use Rattle.std.proofs.Common.{◌≡◌, refl, sym, ◌∙◌, ap, subst, Option, Some, None, List, ℕ, ◌+◌, ◌<◌, Bool, true, false, cond, is_some, map, not, ◌&&◌, ◌==◌, if◌then◌else◌, nat_le, option_map, option_to_list, true≢false, ne_eqb, arith}
 use Rattle.std.proofs.lemmas.Bool.Decides.{nat_tests}
 use Rattle.std.proofs.lemmas.Option.{same_Some}
 use Rattle.da_base.specs.Words.{nth, count_where, later as later_by, option_or_else, passes_option}
 use Rattle.da_invariants.proofs.Marks.{IsMarked, history_marked}
-use Rattle.da_laws.proofs.Entries.{replies_at, replies_of}
-use Rattle.da_laws.proofs.RepliedOnce.{entry_replies, times, times-append}
+use Rattle.da_laws.proofs.RepliedOnce.{entry_replies, none_any, replies_at, replies_of, some_any, times, times-append}
 use Rattle.da_laws.specs.LimitLaws.{IsTimedOut, LimitsTimeOut, NoLimitIsPassed, TakesTheFirst, TimedOutIsSilent, TimedOutIsTold, told}
-use Rattle.da_play.proofs.EntryInduction.{ContinuedUndecided}
-use Rattle.da_play.proofs.EntryParts.{IsSound, before_gives, sound_input}
+use Rattle.da_play.proofs.EntryParts.{ContinuedUndecided, IsSound, before_gives, sound_input}
 use Rattle.da_play.specs.Effects.{continued_if, effects, final_replies}
 use Rattle.da_play.specs.History.{after, after_input, before_input, tables_of}
 use Rattle.da_play.specs.declared.input.Entry.{Entry}
@@ -131,31 +128,6 @@ module _ (settings : Settings) (e : Entry) (g : List Entry) where
       times-append n (final_replies (effects settings tables e)) (option_to_list (effects settings tables e).challenged) in
       let none : times n (option_to_list (effects settings tables e).challenged) ≡ 0 = no_challenge n h in
       omega (arith, append, none)
-
--- ---- counts
-
-none_any : (p : ℕ → Bool) (xs : List ℕ) → count_where p xs ≡ 0 → list_any p xs ≡ false
-none_any p [] e = refl
-none_any p (x ∷ xs) e = go (p x) refl e (none_any p xs)
-  where
-    go : (b : Bool) → p x ≡ b → cond b 1 0 + count_where p xs ≡ 0 → (count_where p xs ≡ 0 → list_any p xs ≡ false) → (p x || list_any p xs) ≡ false
-    go true d e rest = (let bad : ⊥ = omega (arith, e) in absurd bad)
-    go false d e rest = ap (λ (b : Bool). b || list_any p xs) d ∙ rest (omega (arith, e))
-
-no_one : (p : ℕ → Bool) (xs : List ℕ) → list_any p xs ≡ false → count_where p xs ≡ 0
-no_one p [] e = refl
-no_one p (x ∷ xs) e = go (p x) e (no_one p xs)
-  where
-    go : (b : Bool) → (b || list_any p xs) ≡ false → (list_any p xs ≡ false → count_where p xs ≡ 0) → cond b 1 0 + count_where p xs ≡ 0
-    go true e rest = absurd (true≢false e)
-    go false e rest = zero-add _ ∙ rest e
-
-some_any : (p : ℕ → Bool) (xs : List ℕ) → count_where p xs ≡ 1 → list_any p xs ≡ true
-some_any p xs e = go (list_any p xs) refl
-  where
-    go : (b : Bool) → list_any p xs ≡ b → list_any p xs ≡ true
-    go true d = d
-    go false d = (let none : count_where p xs ≡ 0 = no_one p xs d in let bad : ⊥ = omega (arith, none, e) in absurd bad)
 
 over_unreplied : (settings : Settings) (moment : ℕ) (r : Request) → is_over_limit settings moment r ≡ true → is_some r.replied ≡ false
 unfolding is_over_limit

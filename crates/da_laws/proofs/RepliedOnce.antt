@@ -1,30 +1,29 @@
 -- A request has at most one final reply.
-use Rattle.da_play.proofs.EntryInduction.{keeps_requests}
-use Rattle.std.proofs.Common.{◌≡◌, ◌≢◌, refl, sym, ◌∙◌, ap, ap₂, subst, Option, Some, None, List, [], ◌∷◌, ◌++◌, ℕ, zero, suc, ◌+◌, ◌≤◌, ◌<◌, Bool, true, false, cond, map, slice_get, is_some, arith, ◌==◌, option_map, option_to_list, true≢false, eq-eqb, ne_eqb, add-zero, zero-add}
-use Rattle.std.proofs.lemmas.Bool.{eqb-true}
+use Rattle.std.proofs.Common.{◌≡◌, ◌≢◌, ◌⊎◌, inl, inr, refl, sym, ◌∙◌, ap, ap₂, subst, Option, Some, None, List, [], ◌∷◌, ◌++◌, ℕ, zero, suc, ◌+◌, ◌≤◌, ◌<◌, Bool, true, false, cond, not, ◌&&◌, ◌||◌, map, length, slice_get, is_some, arith, ◌==◌, option_map, option_to_list, true≢false, eq-eqb, ne_eqb, add-zero, zero-add}
+use Rattle.std.specs.List.{list_any}
 use Rattle.da_tables.proofs.Cases.{by_test, and_first, and_second, not_true}
-use Rattle.da_laws.proofs.Entries.{replies_of, replies_at, quiet_replies, all_changed, all_same, AllQuiet, IsQuiet, IsFair, Carries, AreFresh, IsUnreplied, fair_input}
-use Rattle.da_base.specs.Words.{nth, changed_at, changed_nth, passes_option, option_or_else, numbers_where, count_where}
+use Rattle.da_tables.proofs.Rows.{nth-changed, nth-last, nth-map, nth-other, nth-past, nth-unchanged, same_or_not}
+use Rattle.da_base.specs.Words.{nth, changed_nth, passes_option, option_or_else, numbers_where, count_where}
 use Rattle.da_fields.specs.declared.answer.Answer.{Answer}
-use Rattle.da_play.specs.Effects.{effects, final_replies, all_final_replies, due_requests, by_due, with_placed, continued_if}
-use Rattle.da_play.proofs.EntryParts.{before_replies_gives}
-use Rattle.da_play.specs.History.{tables_of, after, keeps, after_stage, follows_for, follows_from, after_input, before_input, before_replies}
-use Rattle.da_play.specs.declared.input.Input.{Input}
-use Rattle.da_request.specs.Requests.{timed_out, timed_out_if_over, with_decision}
-use Rattle.da_tables.proofs.Rows.{nth-map}
-use Rattle.da_tables.specs.Tables.{with_due_replied, with_timed_out}
-use Rattle.da_answers.specs.Hits.{after_hits, after_hit, hit_on, hit_with}
-use Rattle.da_request.specs.Requests.{with_answer}
 use Rattle.da_laws.specs.ReplyLaws.{RepliesAtMostOnce}
-use Rattle.da_request.specs.Requests.{is_due, is_held, is_over_limit, request_stage}
-use Rattle.da_tables.specs.Tables.{AfterInput}
+use Rattle.da_play.proofs.EntryParts.{ContinuedParts, InputParts, an_entry_gives, before_replies_gives}
+use Rattle.da_play.specs.Effects.{effects, final_replies, all_final_replies, due_requests, by_due, with_placed, continued_if}
+use Rattle.da_play.specs.History.{tables_of, after, after_input, before_input, before_replies}
 use Rattle.da_play.specs.declared.input.Entry.{Entry}
-use Rattle.da_settings.specs.declared.settings.Settings.{Settings}
-use Rattle.da_tables.specs.declared.queries.QueryRow.{QueryRow}
+use Rattle.da_play.specs.declared.input.Input.{Input}
+use Rattle.da_request.specs.Requests.{as_cancelled_of, cancelled, is_due, is_held, is_of, is_over_limit, is_undecided, new_request, timed_out, timed_out_if_over, with_answer, with_decision, with_late_answer, with_text}
 use Rattle.da_request.specs.declared.request.Request.{Request}
-use Rattle.da_request.specs.declared.stages.Stage.{Stage}
-use Rattle.da_request.specs.declared.stages.Stage.TheVariants.{Awaits, Asks, Decided}
+use Rattle.da_settings.specs.declared.settings.Settings.{Settings}
+use Rattle.da_steps.proofs.Standing.{undecided_is}
+use Rattle.da_tables.specs.Tables.{with_due_replied, with_end, with_request, with_timed_out}
 use Rattle.da_tables.specs.declared.tables.Tables.{Tables}
+
+-- whether request n was replied, as a number
+abbrev pub replies_of : Request → ℕ
+replies_of r = cond (is_some r.replied) 1 0
+
+abbrev pub replies_at : List Request → ℕ → ℕ
+replies_at rs n = option_or_else (nth rs n) 0 replies_of
 
 -- how often n stands in a list
 abbrev pub times : ℕ → List ℕ → ℕ
@@ -33,6 +32,29 @@ times n = count_where (λ m. m == n)
 pub times-append : (n : ℕ) (xs ys : List ℕ) → times n (xs ++ ys) ≡ times n xs + times n ys
 times-append n [] ys = sym (zero-add (times n ys))
 times-append n (x ∷ xs) ys = let rest : times n (xs ++ ys) ≡ times n xs + times n ys = times-append n xs ys in omega (arith, rest)
+
+pub none_any : (p : ℕ → Bool) (xs : List ℕ) → count_where p xs ≡ 0 → list_any p xs ≡ false
+none_any p [] e = refl
+none_any p (x ∷ xs) e = go (p x) refl e (none_any p xs)
+  where
+    go : (b : Bool) → p x ≡ b → cond b 1 0 + count_where p xs ≡ 0 → (count_where p xs ≡ 0 → list_any p xs ≡ false) → (p x || list_any p xs) ≡ false
+    go true d e rest = (let bad : ⊥ = omega (arith, e) in absurd bad)
+    go false d e rest = ap (λ (b : Bool). b || list_any p xs) d ∙ rest (omega (arith, e))
+
+no_one : (p : ℕ → Bool) (xs : List ℕ) → list_any p xs ≡ false → count_where p xs ≡ 0
+no_one p [] e = refl
+no_one p (x ∷ xs) e = go (p x) e (no_one p xs)
+  where
+    go : (b : Bool) → (b || list_any p xs) ≡ false → (list_any p xs ≡ false → count_where p xs ≡ 0) → cond b 1 0 + count_where p xs ≡ 0
+    go true e rest = absurd (true≢false e)
+    go false e rest = zero-add _ ∙ rest e
+
+pub some_any : (p : ℕ → Bool) (xs : List ℕ) → count_where p xs ≡ 1 → list_any p xs ≡ true
+some_any p xs e = go (list_any p xs) refl
+  where
+    go : (b : Bool) → list_any p xs ≡ b → list_any p xs ≡ true
+    go true d = d
+    go false d = (let none : count_where p xs ≡ 0 = no_one p xs d in let bad : ⊥ = omega (arith, none, e) in absurd bad)
 
 -- ---- the requests that are due, in order, are those that are due
 
@@ -113,64 +135,42 @@ unfolding with_due_replied with_reply
 part_one settings moment tables zero = sym (times-due settings tables moment 0) ∙ sym (zero-add _)
 part_one settings moment tables (suc n) = slice-with_reply settings moment tables.requests n ∙ ap (λ x. option_or_else (slice_get tables.requests n) 0 replies_of + x) (sym (times-due settings tables moment (suc n)))
 
-fresh_slice : (old rs fresh : List Request) (n : ℕ) → AreFresh old fresh → option_or_else (slice_get (rs ++ fresh) n) 0 replies_of ≡ option_or_else (slice_get rs n) 0 replies_of
-fresh_slice old [] [] n h = refl
-fresh_slice old [] (r ∷ []) zero h = ap (λ x. cond (is_some x) 1 0) h.0
-fresh_slice old [] (r ∷ []) (suc n) h = refl
-fresh_slice old [] (r ∷ s ∷ rs) n h = absurd h
-fresh_slice old (q ∷ rs) fresh zero h = refl
-fresh_slice old (q ∷ rs) fresh (suc n) h = fresh_slice old rs fresh n h
+-- ---- what an input and hits leave
 
-fresh_replies : (old rs fresh : List Request) (n : ℕ) → AreFresh old fresh → replies_at (rs ++ fresh) n ≡ replies_at rs n
-fresh_replies old rs fresh zero h = refl
-fresh_replies old rs fresh (suc n) h = fresh_slice old rs fresh n h
+-- a change that keeps whether a request is replied
+abbrev KeepsReplied : (Request → Request) → Type 0
+KeepsReplied f = (r : Request) → is_some (f r).replied ≡ is_some r.replied
 
-carried : (old new : List Request) → Carries old new → (n : ℕ) → replies_at new n ≡ replies_at old n
-carried old new c n = ap (λ rs. replies_at rs n) c.is ∙ fresh_replies old c.kept c.fresh n c.are_fresh ∙ quiet_replies old c.kept n c.quiet
+mapped_replies : (f : Request → Request) → KeepsReplied f → (o : Option Request) → option_or_else (option_map f o) 0 replies_of ≡ option_or_else o 0 replies_of
+mapped_replies f h None = refl
+mapped_replies f h (Some r) = ap (λ (b : Bool). cond b 1 0) (h r)
 
--- ---- hits, and the answer that is kept
+map_replies : (f : Request → Request) → KeepsReplied f → (rs : List Request) (n : ℕ) → replies_at (map f rs) n ≡ replies_at rs n
+map_replies f h rs n = ap (λ (o : Option Request). option_or_else o 0 replies_of) (nth-map f rs n) ∙ mapped_replies f h (nth rs n)
 
-answer_quiet : (db : ℕ) (answer : Answer) (r : Request) → IsQuiet r (with_answer db answer r)
-answer_quiet db answer r = record { replied = refl; grant = λ c. refl }
-
-hit_quiet : (settings : Settings) (continued number : ℕ) (o : Option QueryRow) (tables : Tables) → AllQuiet tables.requests (hit_on settings continued number o tables).requests
-hit_quiet settings continued number None tables = all_same tables.requests
-hit_quiet settings continued number (Some a) tables = go a.answer
+changed_replies : (f : Request → Request) → KeepsReplied f → (rs : List Request) (m n : ℕ) → replies_at (changed_nth f rs m) n ≡ replies_at rs n
+changed_replies f h rs m n = go (same_or_not n m)
   where
-    go : (o : Option (Answer × ℕ)) → AllQuiet tables.requests (option_or_else o tables (λ p. hit_with settings continued number a p.0 tables)).requests
-    go None = all_same tables.requests
-    go (Some p) = all_changed (with_answer a.question.db p.0) (answer_quiet a.question.db p.0) tables.requests continued
+    go : (n ≡ m) ⊎ (n ≢ m) → replies_at (changed_nth f rs m) n ≡ replies_at rs n
+    go (inl d) = ap (replies_at (changed_nth f rs m)) d ∙ ap (λ (o : Option Request). option_or_else o 0 replies_of) (nth-changed f rs m) ∙ mapped_replies f h (nth rs m) ∙ ap (replies_at rs) (sym d)
+    go (inr d) = ap (λ (o : Option Request). option_or_else o 0 replies_of) (nth-unchanged f rs m n d)
 
-hits_quiet : (settings : Settings) (continued : ℕ) (tables : Tables) (hits : List ℕ) (n : ℕ) → replies_at (after_hits settings continued tables hits).requests n ≡ replies_at tables.requests n
-hits_quiet settings continued tables [] n = refl
-hits_quiet settings continued tables (k ∷ ks) n = hits_quiet settings continued (after_hit settings continued tables k) ks n ∙ quiet_replies tables.requests (after_hit settings continued tables k).requests n (hit_quiet settings continued k (nth tables.queries k) tables)
+new_replies : (rs : List Request) (r : Request) (n : ℕ) → r.replied ≡ None → replies_at (rs ++ r ∷ []) n ≡ replies_at rs n
+new_replies rs r n none = go (same_or_not n (suc (length rs)))
+  where
+    nothing : (o : Option Request) → ((s : Request) → o ≡ Some s → ⊥) → 0 ≡ option_or_else o 0 replies_of
+    nothing None h = refl
+    nothing (Some s) h = absurd (h s refl)
+
+    go : (n ≡ suc (length rs)) ⊎ (n ≢ suc (length rs)) → replies_at (rs ++ r ∷ []) n ≡ replies_at rs n
+    go (inl d) = ap (replies_at (rs ++ r ∷ [])) d ∙ ap (λ (o : Option Request). option_or_else o 0 replies_of) (nth-last rs r) ∙ ap (λ (x : Option ℕ). cond (is_some x) 1 0) none
+        ∙ nothing (nth rs n) (λ s e. nth-past rs s (ap (nth rs) (sym d) ∙ e))
+    go (inr d) = ap (λ (o : Option Request). option_or_else o 0 replies_of) (nth-other rs r n d)
+
+late_replies : (db : ℕ) (answer : Answer) → KeepsReplied (with_late_answer db answer)
+late_replies db answer r = by_test (λ (s : Request). is_some s.replied ≡ is_some r.replied) (is_some r.decided && not r.is_timed_out) r (with_answer db answer r) (λ e. refl) (λ e. refl)
 
 -- ---- the reply to the request that is continued
-
-other_slice : (f : Request → Request) (rs : List Request) (m n : ℕ) → n ≢ m → slice_get (changed_at f rs m) n ≡ slice_get rs n
-other_slice f [] m n h = refl
-other_slice f (r ∷ rs) zero zero h = absurd (h refl)
-other_slice f (r ∷ rs) zero (suc n) h = refl
-other_slice f (r ∷ rs) (suc m) zero h = refl
-other_slice f (r ∷ rs) (suc m) (suc n) h = other_slice f rs m n (λ e. h (ap (λ k. suc k) e))
-
-pub nth-other : (f : Request → Request) (rs : List Request) (m n : ℕ) → n ≢ m → nth (changed_nth f rs m) n ≡ nth rs n
-nth-other f rs zero n h = refl
-nth-other f rs (suc m) zero h = refl
-nth-other f rs (suc m) (suc n) h = other_slice f rs m n (λ e. h (ap (λ k. suc k) e))
-
--- all but the one that is continued keep their replies
-stage_other : (settings : Settings) (moment number : ℕ) (o : Option Request) (tables : Tables) (n : ℕ) → n ≢ number → replies_at (follows_for settings moment number o tables).requests n ≡ replies_at tables.requests n
-stage_other settings moment number None tables n h = refl
-stage_other settings moment number (Some r) tables n h = go (request_stage settings r)
-  where
-    go : (s : Stage) → replies_at (follows_from settings moment number r s tables).requests n ≡ replies_at tables.requests n
-    go (Awaits text) = refl
-    go (Asks q) = refl
-    go (Decided d) = ap (λ o. option_or_else o 0 replies_of) (nth-other (with_decision settings moment) tables.requests number n h)
-
-is_replied : Request → Bool
-is_replied r = is_some r.replied
 
 -- the entry tells the reply of the request that it continues
 told_once : (o : Option Request) (n : ℕ) → option_or_else o 0 replies_of ≡ times n (option_to_list (cond (passes_option (λ r. is_some r.replied) o) (Some n) None))
@@ -185,35 +185,70 @@ not_told : (b : Bool) (n m : ℕ) → n ≢ m → times n (option_to_list (cond 
 not_told true n m h = ap (λ b. let k : ℕ = cond b 1 0 in k + 0) (ne_eqb m n (λ e. h (sym e)))
 not_told false n m h = refl
 
-equal_or_not : (m n : ℕ) → (b : Bool) → (m == n) ≡ b → (P : Type 0) → (m ≡ n → P) → (m ≢ n → P) → P
-equal_or_not m n true e P same other = same (eqb-true m n e)
-equal_or_not m n false e P same other = other (λ d. true≢false (sym (eq-eqb m n d) ∙ e))
+module _ (settings : Settings) (moment : ℕ) (before : Tables) (entered : Input) (hits : List ℕ) (n : ℕ) where
+  -- request n as it was, until the entry tells the reply of the request that it continues
+  abbrev replies_now : Tables → Option ℕ → List ℕ → Type 0
+  replies_now tables m done = replies_at tables.requests n ≡ replies_at before.requests n
 
-continued_to : Settings → ℕ → List ℕ → Tables → Option ℕ → Tables
-continued_to settings moment hits tables o = option_or_else o tables (λ number. after_stage settings moment number (after_hits settings number tables hits))
+  abbrev replies_after : Tables → Option ℕ → Type 0
+  replies_after tables m = replies_at tables.requests n ≡ replies_at before.requests n + times n (option_to_list (continued_if (λ r. is_some r.replied) tables.requests m))
 
-part_two : (settings : Settings) (moment : ℕ) (hits : List ℕ) (tables : Tables) (o : Option ℕ) (n : ℕ) → IsUnreplied tables.requests o →
-    replies_at (continued_to settings moment hits tables o).requests n ≡ replies_at tables.requests n + times n (option_to_list (continued_if (λ r. is_some r.replied) (continued_to settings moment hits tables o).requests o))
-unfolding continued_to after_stage
-part_two settings moment hits tables None n u = sym (add-zero (replies_at tables.requests n))
-part_two settings moment hits tables (Some m) n u =
-    let before : Tables = after_hits settings m tables hits in
-    let final : Tables = follows_for settings moment m (nth before.requests m) before in
-    equal_or_not n m (n == m) refl _
-    (λ e. subst (λ k. replies_at final.requests k ≡ replies_at tables.requests k + times k (option_to_list (continued_if (λ r. is_some r.replied) final.requests (Some m)))) (sym e)
-    (told_once (nth final.requests m) m ∙ sym (ap (λ x. x + times m (option_to_list (continued_if (λ r. is_some r.replied) final.requests (Some m)))) u ∙ zero-add _)))
-    (λ e. stage_other settings moment m (nth before.requests m) before n e ∙ hits_quiet settings m tables hits n ∙ sym (ap (λ x. replies_at tables.requests n + x) (not_told _ n m e) ∙ add-zero _))
+  ended_replies : (conn : ℕ) → replies_at (with_end conn before).requests n ≡ replies_at before.requests n
+  unfolding with_end
+  ended_replies conn = map_replies (as_cancelled_of conn) (λ r. by_test (λ (s : Request). is_some s.replied ≡ is_some r.replied) (is_of conn r) (cancelled r) r (λ e. refl) (λ e. refl)) before.requests n
+
+  input_replies : InputParts settings moment before entered (λ tables m. replies_at tables.requests n ≡ replies_at before.requests n)
+  input_replies = record {
+    opens = λ kind random l p. p;
+    tells = λ conn change h told p. p;
+    ends = λ conn e p. ended_replies conn;
+    cancels = λ m e p. changed_replies cancelled (λ r. refl) before.requests m n;
+    texts = λ conn id random text m r is w p. changed_replies (with_text text) (λ r. refl) before.requests _ n;
+    makes = λ conn id random body m p. new_replies before.requests (new_request moment conn id random body) n refl;
+    loses = λ query given a g is run lost u p. p;
+    loses_late = λ query given a g is run lost u p. p;
+    answers = λ query given a g is run heard u p. changed_replies (with_answer a.question.db _) (λ r. refl) before.requests a.request n;
+    lates = λ query given a g is run heard u p. changed_replies (with_late_answer a.question.db _) (late_replies a.question.db _) before.requests a.request n;
+  }
+
+  -- the entry tells no reply of a request that stays undecided
+  undecided_replies : (tables : Tables) (m : ℕ) (r : Request) → nth tables.requests m ≡ Some r → is_undecided r ≡ true → replies_at tables.requests n ≡ replies_at before.requests n → replies_after tables (Some m)
+  undecided_replies tables m r is u q =
+      q ∙ sym (ap (λ (b : Bool). replies_at before.requests n + times n (option_to_list (cond b (Some m) None))) (ap (passes_option (λ r. is_some r.replied)) is ∙ (undecided_is r u).1) ∙ add-zero _)
+
+  decided_replies : (tables : Tables) (m : ℕ) (r : Request) → nth tables.requests m ≡ Some r → is_undecided r ≡ true → replies_at tables.requests n ≡ replies_at before.requests n →
+      replies_after (with_request (with_decision settings moment) m tables) (Some m)
+  decided_replies tables m r is u q = go (same_or_not n m)
+    where
+      rs : List Request
+      rs = changed_nth (with_decision settings moment) tables.requests m
+
+      go : (n ≡ m) ⊎ (n ≢ m) → replies_at rs n ≡ replies_at before.requests n + times n (option_to_list (continued_if (λ r. is_some r.replied) rs (Some m)))
+      go (inl d) = subst (λ (k : ℕ). replies_at rs n ≡ replies_at before.requests n + times n (option_to_list (cond (passes_option (λ r. is_some r.replied) (nth rs k)) (Some k) None))) d
+          (told_once (nth rs n) n
+          ∙ sym (ap (λ x. x + times n (option_to_list (cond (passes_option (λ r. is_some r.replied) (nth rs n)) (Some n) None)))
+          (sym q ∙ ap (replies_at tables.requests) d ∙ ap (λ (o : Option Request). option_or_else o 0 replies_of) is ∙ ap (λ (b : Bool). cond b 1 0) (undecided_is r u).1) ∙ zero-add _))
+      go (inr d) = ap (λ (o : Option Request). option_or_else o 0 replies_of) (nth-unchanged (with_decision settings moment) tables.requests m n d) ∙ q
+          ∙ sym (ap (λ x. replies_at before.requests n + x) (not_told _ n m d) ∙ add-zero _)
+
+  continued_replies : ContinuedParts settings moment before entered hits replies_now replies_after
+  continued_replies = record {
+    hit = λ tables continued number done rest a p is e w u q. changed_replies (with_answer a.question.db p.0) (λ r. refl) tables.requests continued n ∙ q;
+    misses = λ tables continued number done rest e w q. q;
+    rests = λ tables q. q ∙ sym (add-zero _);
+    awaits = λ tables m r text is u e q. undecided_replies tables m r is u q;
+    asks = λ tables m r question is u e q. undecided_replies tables m r is u q;
+    decides = λ tables m r d is u e q. decided_replies tables m r is u q;
+    kept = λ tables m query given a l run is k q. q;
+  }
 
 -- ---- one entry, and a history
 
 -- nothing is replied before the replies that are due
 timed_replies : (settings : Settings) (moment : ℕ) (tables : Tables) (n : ℕ) → replies_at (with_timed_out settings moment tables).requests n ≡ replies_at tables.requests n
 unfolding with_timed_out
-timed_replies settings moment tables n = ap (λ o. option_or_else o 0 replies_of) (nth-map (timed_out_if_over settings moment) tables.requests n) ∙ go (nth tables.requests n)
-  where
-    go : (o : Option Request) → option_or_else (option_map (timed_out_if_over settings moment) o) 0 replies_of ≡ option_or_else o 0 replies_of
-    go None = refl
-    go (Some r) = by_test (λ (s : Request). replies_of s ≡ replies_of r) (is_over_limit settings moment r) (timed_out moment r) r (λ e. refl) (λ e. refl)
+timed_replies settings moment tables n =
+    map_replies (timed_out_if_over settings moment) (λ r. by_test (λ (s : Request). is_some s.replied ≡ is_some r.replied) (is_over_limit settings moment r) (timed_out moment r) r (λ e. refl) (λ e. refl)) tables.requests n
 
 replies_before : (settings : Settings) (moment : ℕ) (input : Input) (tables : Tables) (n : ℕ) → replies_at (before_replies settings moment input tables).requests n ≡ replies_at tables.requests n
 replies_before settings moment input tables n =
@@ -228,26 +263,17 @@ first_replies settings moment input tables n =
     part_one settings moment timed n ∙ ap (λ x. x + times n (due_requests settings timed moment)) (replies_before settings moment input tables n)
 
 pub entry_replies : (settings : Settings) (tables : Tables) (e : Entry) (n : ℕ) → replies_at (after settings tables e).requests n ≡ replies_at tables.requests n + times n (final_replies (effects settings tables e))
-unfolding after effects continued_to
+unfolding effects
 entry_replies settings tables e n =
-    let timed : Tables = before_replies settings e.moment e.input tables in
-    let part1 : Tables = before_input settings e.moment e.input tables in
-    let h : AfterInput = after_input settings e.moment e.input part1 in
-    let fair : IsFair part1.requests h = fair_input settings e.moment e.input part1 in
-    let last : Tables = continued_to settings e.moment e.hits h.tables h.continued in
-    let reported : List ℕ = option_to_list (continued_if (λ r. is_some r.replied) last.requests h.continued) in
-    let first_part : replies_at part1.requests n ≡ replies_at tables.requests n + times n (due_requests settings timed e.moment) = first_replies settings e.moment e.input tables n in
-    let own : replies_at h.tables.requests n ≡ replies_at part1.requests n = carried part1.requests h.tables.requests fair.carries n in
-    let second_part : replies_at last.requests n ≡ replies_at h.tables.requests n + times n reported = part_two settings e.moment e.hits h.tables h.continued n fair.continued in
-    let same : (keeps settings part1 e.input last).requests ≡ last.requests = keeps_requests settings part1 e.input last in
-    ap (λ rs. replies_at rs n) same ∙ second_part
-    ∙ ap (λ x. x + times n reported) (own ∙ first_part)
-    ∙ regrouped (replies_at tables.requests n) (times n (due_requests settings timed e.moment)) (times n reported)
-    ∙ ap (λ x. replies_at tables.requests n + x) (sym (times-append n (due_requests settings timed e.moment) reported))
-    ∙ ap (λ rs. replies_at tables.requests n + times n (due_requests settings timed e.moment ++ option_to_list (continued_if (λ r. is_some r.replied) rs h.continued))) (sym same)
-  where
-    regrouped : (a b c : ℕ) → a + b + c ≡ a + (b + c)
-    regrouped a b c = omega arith
+    let before : Tables = before_input settings e.moment e.input tables in
+    let due : List ℕ = due_requests settings (before_replies settings e.moment e.input tables) e.moment in
+    let own : List ℕ = option_to_list (continued_if (λ r. is_some r.replied) (after settings tables e).requests (after_input settings e.moment e.input before).continued) in
+    let part_two : replies_at (after settings tables e).requests n ≡ replies_at before.requests n + times n own =
+    an_entry_gives settings tables e (replies_now settings e.moment before e.input e.hits n) (replies_after settings e.moment before e.input e.hits n)
+    (input_replies settings e.moment before e.input e.hits n) (continued_replies settings e.moment before e.input e.hits n) refl in
+    let part_one : replies_at before.requests n ≡ replies_at tables.requests n + times n due = first_replies settings e.moment e.input tables n in
+    let both : times n (due ++ own) ≡ times n due + times n own = times-append n due own in
+    omega (arith, part_one, part_two, both)
 
 replied_times : (settings : Settings) (h : List Entry) (n : ℕ) → times n (all_final_replies settings h) ≡ replies_at (tables_of settings h).requests n
 replied_times settings [] zero = refl
@@ -261,7 +287,7 @@ replied_times settings (e ∷ g) n =
     swapped : (a b : ℕ) → a + b ≡ b + a
     swapped a b = omega arith
 
-at_most_one : (o : Option Request) → option_or_else o 0 replies_of ≤ 1
+pub at_most_one : (o : Option Request) → option_or_else o 0 replies_of ≤ 1
 at_most_one None = omega arith
 at_most_one (Some r) = go (is_some r.replied)
   where

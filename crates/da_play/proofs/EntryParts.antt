@@ -3,9 +3,8 @@ use Rattle.std.proofs.Common.{◌≡◌, ◌⊎◌, inl, inr, refl, sym, ◌∙�
 use Rattle.std.proofs.lemmas.Option.{same_Some}
 use Rattle.da_tables.proofs.Cases.{by_test, and_first, and_second, not_true}
 use Rattle.std.specs.List.{list_any}
-use Rattle.da_play.proofs.EntryInduction.{IsUndecidedAt, ContinuedUndecided, still_undecided}
-use Rattle.da_tables.proofs.Rows.{passing, nth-last}
-use Rattle.da_base.specs.Words.{Bytes, hex, nth, passes_option, option_or_else}
+use Rattle.da_tables.proofs.Rows.{passing, nth-changed, nth-last}
+use Rattle.da_base.specs.Words.{Bytes, changed_nth, hex, nth, passes_option, option_or_else}
 use Rattle.da_fields.specs.FieldList.{Pairs}
 use Rattle.da_fields.specs.declared.answer.Answer.{Answer}
 use Rattle.da_fields.specs.declared.answer.Answer.TheVariants.{Internal}
@@ -49,6 +48,22 @@ use Rattle.da_request.specs.declared.request.Request.{Request}
 use Rattle.da_request.specs.declared.stages.Stage.{Stage}
 use Rattle.da_request.specs.declared.stages.Stage.TheVariants.{Awaits, Asks, Decided}
 use Rattle.da_tables.specs.declared.tables.Tables.{Tables}
+
+-- ---- the request that is continued is undecided
+
+abbrev pub IsUndecidedAt : List Request → ℕ → Type 0
+IsUndecidedAt rs n = passes_option is_undecided (nth rs n) ≡ true
+
+abbrev pub ContinuedUndecided : List Request → Option ℕ → Type 0
+ContinuedUndecided rs None = Unit {0}
+ContinuedUndecided rs (Some n) = IsUndecidedAt rs n
+
+still_undecided : (f : Request → Request) → ((r : Request) → is_undecided (f r) ≡ is_undecided r) → (rs : List Request) (n : ℕ) → IsUndecidedAt rs n → IsUndecidedAt (changed_nth f rs n) n
+still_undecided f h rs n u = ap (passes_option is_undecided) (nth-changed f rs n) ∙ go (nth rs n) ∙ u
+  where
+    go : (o : Option Request) → passes_option is_undecided (option_map f o) ≡ passes_option is_undecided o
+    go None = refl
+    go (Some r) = h r
 
 -- ---- what the input was
 

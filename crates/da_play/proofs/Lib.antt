@@ -1,4 +1,3 @@
-pub mod EntryInduction
 pub mod EntryParts
 pub mod FewRows
 pub mod RequestParts

@@ -1,8 +1,7 @@
 -- What the uses of an answer found is what the entries did.
 use Rattle.std.proofs.Common.{◌≡◌, ◌⊎◌, inl, inr, refl, sym, ◌∙◌, ap, ap₂, subst, Option, Some, None, List, [], ◌∷◌, ◌++◌, ℕ, zero, suc, Bool, true, false, cond, option_to_list, option_map, option_and_then, is_some, ◌&&◌, append-nil, append_assoc, ◌==◌, eq-eqb, ne_eqb}
 use Rattle.da_tables.proofs.Cases.{and_second, not_true}
-use Rattle.da_play.proofs.EntryInduction.{ContinuedUndecided}
-use Rattle.da_play.proofs.EntryParts.{InputParts, ContinuedParts, IsSound, sound_input, continued_gives, before_gives, told_queries}
+use Rattle.da_play.proofs.EntryParts.{InputParts, ContinuedParts, ContinuedUndecided, IsSound, sound_input, continued_gives, before_gives, told_queries}
 use Rattle.da_invariants.proofs.KeysLaw.{IsRecorded, told_is_recorded}
 use Rattle.da_invariants.proofs.OpenQueries.{none_there}
 use Rattle.da_invariants.proofs.KnownHits.{IsKnown, AllKnown, one_known, continued_known, known_under, IsSameHit, same_hit, known_stays}

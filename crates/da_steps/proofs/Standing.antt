@@ -2,8 +2,7 @@
 use Rattle.std.proofs.Common.{◌≡◌, ◌⊎◌, inl, inr, refl, sym, ◌∙◌, ap, subst, Option, Some, None, List, ◌++◌, ℕ, Bool, true, false, map, is_some, not, ◌&&◌, option_map, true≢false}
 use Rattle.std.proofs.lemmas.Option.{none-some, same_Some}
 use Rattle.da_tables.proofs.Cases.{by_test, and_first, and_second, not_true}
-use Rattle.da_play.proofs.EntryInduction.{IsUndecidedAt}
-use Rattle.da_play.proofs.EntryParts.{InputParts, ContinuedParts, IsSameConnection, IsSound, sound_input, before_gives, continued_gives, an_entry_gives, recorded}
+use Rattle.da_play.proofs.EntryParts.{InputParts, ContinuedParts, IsUndecidedAt, IsSameConnection, IsSound, sound_input, before_gives, continued_gives, an_entry_gives, recorded}
 use Rattle.da_tables.proofs.Rows.{same_or_not, nth-changed, nth-unchanged, nth-map, nth-before, first_passes}
 use Rattle.da_base.specs.Words.{Bytes, nth, changed_nth, passes_option}
 use Rattle.da_fields.specs.declared.answer.Answer.{Answer}
@@ -103,7 +102,7 @@ request_later a b c f g = record {
     still : is_some a.decided ≡ true → is_some b.decided ≡ true
     still e = let d : (m : ℕ) × (a.decided ≡ Some m) = is_there a.decided e in ap is_some (f.decided d.0 d.1)
 
-cancelled_stands : (r : Request) → RequestStands r (cancelled r)
+pub cancelled_stands : (r : Request) → RequestStands r (cancelled r)
 cancelled_stands r = record { conn = refl; id = refl; random = refl; start = refl; is_client = refl; grant = λ n. refl; cancelled = λ e. refl; decided = λ m e. e; replied = λ m e. e; body = λ e. refl; timed_out = λ e. refl; answers = λ e f. refl }
 
 cancelled_of_stands : (conn : ℕ) (r : Request) → RequestStands r (as_cancelled_of conn r)
@@ -149,7 +148,7 @@ answer_stands : (db : ℕ) (answer : Answer) (r : Request) → is_some r.decided
 answer_stands db answer r u = reads_more r (with_answer db answer r) u refl refl refl refl refl (λ n. refl) refl refl
 
 -- a late answer is one more to a request that isn't decided, or was timed out
-late_stands : (db : ℕ) (answer : Answer) (r : Request) → RequestStands r (with_late_answer db answer r)
+pub late_stands : (db : ℕ) (answer : Answer) (r : Request) → RequestStands r (with_late_answer db answer r)
 late_stands db answer r = by_test (RequestStands r) (is_some r.decided && not r.is_timed_out) r (with_answer db answer r) (λ e. same_request r)
     (λ e. record {
       conn = refl;
@@ -166,7 +165,7 @@ late_stands db answer r = by_test (RequestStands r) (is_some r.decided && not r.
       answers = λ d t. absurd (true≢false (sym (ap (λ (x : Bool). x && not r.is_timed_out) d ∙ ap not t) ∙ e));
     })
 
-reply_stands : (settings : Settings) (moment : ℕ) (r : Request) → RequestStands r (replied_if_due settings moment r)
+pub reply_stands : (settings : Settings) (moment : ℕ) (r : Request) → RequestStands r (replied_if_due settings moment r)
 unfolding is_due
 reply_stands settings moment r = by_test (RequestStands r) (is_due settings moment r) (record r { replied = Some moment }) r
     (λ e. record {
