@@ -6,22 +6,17 @@ use Rattle.std.proofs.lemmas.Option.{same_Some, cond_some, option_and_then_some}
 use Rattle.da_base.specs.Words.{Bytes, is_empty, number}
 use Rattle.da_tabline.specs.Escapes.{line_fields}
 use Rattle.da_fields.specs.FieldList.{Pairs, field}
-use Rattle.da_msgs.specs.Lines.{fits_a_line}
 use Rattle.da_msgs.specs.ClientMessages.{client_message, client_message_of, version_of, one_number, auth_of, auth_with, cont_of, parameters_of}
 use Rattle.da_msgs.specs.ClientSpelling.{FieldsSpell, SpellsClient}
 use Rattle.da_msgs.specs.declared.client.ClientMsg.{ClientMsg}
 use Rattle.da_msgs.specs.declared.client.ClientMsg.TheVariants.{Version, Pid, Auth, Cont, Cancel, Other}
-use Rattle.da_msgs.proofs.FieldSpelling.{fits_parts, fits_from, word_is, some_of_map, version_parts, version_from, one_number_parts, parameters_parts, parameters_from}
-
-with_word : (word other : Bytes) (rest fields : List Bytes) → word ≡ other → rest ≡ fields → word ∷ rest ≡ other ∷ fields
-with_word word other rest fields e f = ap (λ w. w ∷ rest) e ∙ ap (λ l. other ∷ l) f
+use Rattle.da_msgs.proofs.FieldSpelling.{line_read, fits_from, with_word, word_is, some_of_map, version_spelled, version_from, one_number_parts, parameters_parts, parameters_from}
 
 version_case : (word : Bytes) (rest : List Bytes) (m : ClientMsg) → word ≡ codes "VERSION" → option_map (λ v. Version v.0 v.1) (version_of rest) ≡ Some m
     → FieldsSpell (word ∷ rest) m
 version_case word rest m is h =
-    let v = some_of_map (λ (v : ℕ × ℕ). Version v.0 v.1) (version_of rest) m h in
-    let parts = version_parts rest v.0 v.1 in
-    subst (FieldsSpell (word ∷ rest)) v.2 (parts.0, parts.1, parts.2, with_word word (codes "VERSION") rest _ is parts.3, parts.4, parts.5)
+    let s = version_spelled (λ major minor. Version major minor) word rest m is h in
+    subst (FieldsSpell (word ∷ rest)) s.1 (s.2, s.3, s.4, s.5, s.6, s.7)
 
 pid_case : (word : Bytes) (rest : List Bytes) (m : ClientMsg) → word ≡ codes "CPID" → option_map (λ n. Pid n) (one_number rest) ≡ Some m → FieldsSpell (word ∷ rest) m
 pid_case word rest m is h =
@@ -99,10 +94,8 @@ message_from fields Other s = ap client_message_of s.2 ∙ rw (s.3.0, s.3.1, s.3
 pub client_message-spells : (line : Bytes) (m : ClientMsg) → client_message line ≡ Some m → SpellsClient line m
 unfolding client_message
 client_message-spells line m h =
-    elim (cases_Bool (fits_a_line line)) [
-      | inl e ↦ let fits = fits_parts line e in record { short = fits.0; no_end = fits.1; fields = message_parts (line_fields line) m (rw e at h) }
-      | inr e ↦ let never : ◌≡◌ {A = Option ClientMsg} None (Some m) = rw e at h in cc
-    ]
+    let parts = line_read line (client_message_of (line_fields line)) m h in
+    record { short = parts.0; no_end = parts.1; fields = message_parts (line_fields line) m parts.2 }
 
 pub client_message_from : (line : Bytes) (m : ClientMsg) → SpellsClient line m → client_message line ≡ Some m
 unfolding client_message

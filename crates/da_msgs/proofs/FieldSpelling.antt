@@ -14,7 +14,7 @@ use Rattle.da_msgs.specs.Lines.{fits_a_line}
 
 -- ---- lines
 
-pub fits_parts : (line : Bytes) → fits_a_line line ≡ true → (length line ≤ 8192) × (list_any (λ c. eqb c 10) line ≡ false)
+fits_parts : (line : Bytes) → fits_a_line line ≡ true → (length line ≤ 8192) × (list_any (λ c. eqb c 10) line ≡ false)
 fits_parts line h =
     let parts = and_parts (leb (length line) 8192) (not (list_any (λ c. eqb c 10) line)) h in
     (leb-true _ _ parts.0, not-true _ parts.1)
@@ -22,7 +22,20 @@ fits_parts line h =
 pub fits_from : (line : Bytes) → length line ≤ 8192 → list_any (λ c. eqb c 10) line ≡ false → fits_a_line line ≡ true
 fits_from line short no_end = and_from _ _ (le-leb _ _ short) (ap not no_end)
 
+module _ {M : Type 0} where
+  -- where a message is read of a line, the line fits, and its fields spell the message
+  pub line_read : (line : Bytes) (read : Option M) (m : M) → cond (fits_a_line line) read None ≡ Some m
+      → (length line ≤ 8192) × (list_any (λ c. eqb c 10) line ≡ false) × (read ≡ Some m)
+  line_read line read m h =
+      elim (cases_Bool (fits_a_line line)) [
+        | inl e ↦ let fits = fits_parts line e in (fits.0, fits.1, rw e at h)
+        | inr e ↦ let never : ◌≡◌ {A = Option M} None (Some m) = rw e at h in cc
+      ]
+
 -- ---- words
+
+pub with_word : (word other : Bytes) (rest fields : List Bytes) → word ≡ other → rest ≡ fields → word ∷ rest ≡ other ∷ fields
+with_word word other rest fields e f = ap (λ w. w ∷ rest) e ∙ ap (λ l. other ∷ l) f
 
 pub word_is : (word other : Bytes) → bytes_eq word other ≡ true → word ≡ other
 word_is word other = (bytes_eq-Decides word other).0
@@ -35,7 +48,7 @@ some_of_map f (Some x) y h = (x, refl, same_Some _ _ h)
 
 -- ---- two numbers
 
-pub version_parts : (fields : List Bytes) (v : ℕ × ℕ) → version_of fields ≡ Some v
+version_parts : (fields : List Bytes) (v : ℕ × ℕ) → version_of fields ≡ Some v
     → (a b : Bytes) × (rest : List Bytes) × (fields ≡ a ∷ b ∷ rest) × (number a ≡ Some v.0) × (number b ≡ Some v.1)
 version_parts [] v h = cc
 version_parts (a ∷ []) v h = cc
@@ -44,6 +57,15 @@ version_parts (a ∷ b ∷ rest) v h =
     (λ x x_is more.
     let second = some_of_map (λ y. (x, y)) (number b) v more in
     (a, b, rest, refl, x_is ∙ ap (λ p. Some p.0) second.2, second.1 ∙ ap (λ p. Some p.1) second.2))
+
+-- the fields of a line that tells a version
+pub version_spelled : {M : Type 0} (told : ℕ → ℕ → M) (word : Bytes) (rest : List Bytes) (m : M) → word ≡ codes "VERSION"
+    → option_map (λ v. told v.0 v.1) (version_of rest) ≡ Some m
+    → (v : ℕ × ℕ) × (told v.0 v.1 ≡ m) × (a b : Bytes) × (more : List Bytes) × (word ∷ rest ≡ codes "VERSION" ∷ a ∷ b ∷ more) × (number a ≡ Some v.0) × (number b ≡ Some v.1)
+version_spelled told word rest m is h =
+    let v = some_of_map (λ (v : ℕ × ℕ). told v.0 v.1) (version_of rest) m h in
+    let parts = version_parts rest v.0 v.1 in
+    (v.0, v.2, parts.0, parts.1, parts.2, with_word word (codes "VERSION") rest _ is parts.3, parts.4, parts.5)
 
 pub version_from : (a b : Bytes) (rest : List Bytes) (major minor : ℕ) → number a ≡ Some major → number b ≡ Some minor
     → version_of (a ∷ b ∷ rest) ≡ Some (major, minor)

@@ -5,21 +5,18 @@ use Rattle.std.proofs.lemmas.Bool.{cases_Bool}
 use Rattle.std.proofs.lemmas.Option.{same_Some}
 use Rattle.da_base.specs.Words.{Bytes, number}
 use Rattle.da_tabline.specs.Escapes.{line_fields}
-use Rattle.da_msgs.specs.Lines.{fits_a_line}
 use Rattle.da_msgs.specs.ClientMessages.{version_of}
 use Rattle.da_msgs.specs.MasterMessages.{master_message, master_message_of, request_of, request_with}
 use Rattle.da_msgs.specs.MasterSpelling.{MasterFieldsSpell, SpellsMaster}
 use Rattle.da_msgs.specs.declared.master.MasterMsg.{MasterMsg}
 use Rattle.da_msgs.specs.declared.master.MasterMsg.TheVariants.{Version, Request, Other}
-use Rattle.da_msgs.proofs.FieldSpelling.{fits_parts, fits_from, word_is, some_of_map, version_parts, version_from}
+use Rattle.da_msgs.proofs.FieldSpelling.{line_read, fits_from, word_is, version_spelled, version_from}
 
 version_case : (word : Bytes) (rest : List Bytes) (m : MasterMsg) → word ≡ codes "VERSION" → option_map (λ v. Version v.0 v.1) (version_of rest) ≡ Some m
     → MasterFieldsSpell (word ∷ rest) m
 version_case word rest m is h =
-    let v = some_of_map (λ (v : ℕ × ℕ). Version v.0 v.1) (version_of rest) m h in
-    let parts = version_parts rest v.0 v.1 in
-    subst (MasterFieldsSpell (word ∷ rest)) v.2
-    (parts.0, parts.1, parts.2, ap (λ w. w ∷ rest) is ∙ ap (λ l. codes "VERSION" ∷ l) parts.3, parts.4, parts.5)
+    let s = version_spelled (λ major minor. Version major minor) word rest m is h in
+    subst (MasterFieldsSpell (word ∷ rest)) s.1 (s.2, s.3, s.4, s.5, s.6, s.7)
 
 request_with_case : (word a b c cookie : Bytes) (rest : List Bytes) (m : MasterMsg) (id pid client : Option ℕ) → word ≡ codes "REQUEST"
     → number a ≡ id → number b ≡ pid → number c ≡ client → request_with cookie id pid client ≡ Some m → MasterFieldsSpell (word ∷ a ∷ b ∷ c ∷ cookie ∷ rest) m
@@ -59,10 +56,8 @@ message_from fields Other s = ap master_message_of s.2 ∙ rw (s.3, s.4)
 pub master_message-spells : (line : Bytes) (m : MasterMsg) → master_message line ≡ Some m → SpellsMaster line m
 unfolding master_message
 master_message-spells line m h =
-    elim (cases_Bool (fits_a_line line)) [
-      | inl e ↦ let fits = fits_parts line e in record { short = fits.0; no_end = fits.1; fields = message_parts (line_fields line) m (rw e at h) }
-      | inr e ↦ let never : ◌≡◌ {A = Option MasterMsg} None (Some m) = rw e at h in cc
-    ]
+    let parts = line_read line (master_message_of (line_fields line)) m h in
+    record { short = parts.0; no_end = parts.1; fields = message_parts (line_fields line) m parts.2 }
 
 pub master_message_from : (line : Bytes) (m : MasterMsg) → SpellsMaster line m → master_message line ≡ Some m
 unfolding master_message

@@ -137,15 +137,9 @@ fn auth_with(
 fn cont_message(alloc: Global, fields: &[Text]) -> Result<Option<ClientMsg>, AllocError>
     ensures { IfOk result (λ message. message ≡ cont_of fields.now) }
 {
-    let Some((id, rest)) = first(fields) else {
+    let [id, text] = fields else {
         return Ok(None);
     };
-    let Some((text, rest)) = first(rest) else {
-        return Ok(None);
-    };
-    if !rest.is_empty() {
-        return Ok(None);
-    }
     let Some(id) = decimal_u32(id.bytes()) else {
         return Ok(None);
     };

@@ -21,3 +21,4 @@ pub use laws::{
     a_master_line_is_read_as_it_spells, a_master_line_spells_one_message,
 };
 pub use master::{MasterMsg, MasterReply};
+pub use reading::{first, texts_of};

@@ -16,8 +16,8 @@ pub(crate) fn fits_a_line(line: &[u8]) -> bool
     line.len() <= LONGEST_LINE && !line.contains(&b'\n')
 }
 
-// The texts of the fields of a line.
-pub(crate) fn texts_of(alloc: Global, line: &[u8]) -> Result<Vec<Text>, AllocError>
+/// The texts of the fields of a line.
+pub fn texts_of(alloc: Global, line: &[u8]) -> Result<Vec<Text>, AllocError>
     ensures { IfOk result (λ texts. texts.items ≡ line_fields line.now) }
 {
     let mut texts = Vec::new(alloc);
@@ -27,8 +27,8 @@ pub(crate) fn texts_of(alloc: Global, line: &[u8]) -> Result<Vec<Text>, AllocErr
     Ok(texts)
 }
 
-// The first field, and those after it.
-pub(crate) fn first(fields: &[Text]) -> Option<(&Text, &[Text])>
+/// The first field, and those after it. `None` exactly where there is none.
+pub fn first(fields: &[Text]) -> Option<(&Text, &[Text])>
     ensures { MatchOption result (fields.now ≡ []) (λ parts. fields.now ≡ parts.0.now ∷ parts.1.now) }
 {
     fields.split_first()

@@ -1,13 +1,13 @@
 // The lines that the auth service and its master side send.
 
-ghost use Rattle.std.specs.Prelude.{◌≡◌, ◌∷◌, [], IfOk, MatchOption, codes};
+ghost use Rattle.std.specs.Prelude.{◌≡◌, IfOk, codes};
 ghost use Rattle.std.specs.List.{list_all};
 ghost use Rattle.da_fields.specs.FieldList.{field};
-ghost use Rattle.da_tabline.specs.Escapes.{line_fields};
 ghost use Rattle.da_pop3.specs.ServiceLines.{is_version, is_server, is_cookie_digit, is_cookie, cookie_of, mechanism_of, done_of, opening_of, pairs_of, failure_in, challenge_of, success_of, refusal_of, reply_of, found_of, missing_of, lookup_of};
 
 use da_fields::{Fields, Text};
-use da_tabline::{decimal_u32, key_and_value, unescaped_fields};
+use da_msgs::first;
+use da_tabline::{decimal_u32, key_and_value};
 use std::alloc::{AllocError, Global};
 
 /// What a line of the auth service's opening says.
@@ -39,24 +39,6 @@ pub(crate) enum Reply {
 pub(crate) enum Lookup {
     Found { id: u32, user: Text, fields: Fields },
     Missing { id: u32 },
-}
-
-// The texts of the fields of a line.
-pub(crate) fn texts_of(alloc: Global, line: &[u8]) -> Result<Vec<Text>, AllocError>
-    ensures { IfOk result (λ texts. texts.items ≡ line_fields line.now) }
-{
-    let mut texts = Vec::new(alloc);
-    for field in unescaped_fields(alloc, line)? {
-        texts.push(Text::new(field))?;
-    }
-    Ok(texts)
-}
-
-// The first field, and those after it.
-fn first(fields: &[Text]) -> Option<(&Text, &[Text])>
-    ensures { MatchOption result (fields.now ≡ []) (λ parts. fields.now ≡ parts.0.now ∷ parts.1.now) }
-{
-    fields.split_first()
 }
 
 pub(crate) fn is_version(fields: &[Text]) -> bool
@@ -190,15 +172,9 @@ fn last_in(alloc: Global, pairs: &Fields) -> Result<Option<Text>, AllocError>
 fn challenge_of(alloc: Global, fields: &[Text]) -> Result<Option<Reply>, AllocError>
     ensures { IfOk result (λ reply. reply ≡ challenge_of fields.now) }
 {
-    let Some((id, rest)) = first(fields) else {
+    let [id, text] = fields else {
         return Ok(None);
     };
-    let Some((text, rest)) = first(rest) else {
-        return Ok(None);
-    };
-    if !rest.is_empty() {
-        return Ok(None);
-    }
     let Some(id) = decimal_u32(id.bytes()) else {
         return Ok(None);
     };

@@ -10,8 +10,9 @@ use crate::event::{Act, Event, StepFault};
 use crate::exchange::failure_text;
 use crate::place::{AuthPlace, ClientPlace, MasterPlace, Place};
 use crate::pop3::Pop3;
-use crate::service::{Failure, lookup_of, opening_of, reply_of, texts_of};
+use crate::service::{Failure, lookup_of, opening_of, reply_of};
 use da_fields::Text;
+use da_msgs::texts_of;
 use std::alloc::{AllocError, Global};
 
 impl Pop3 {
