@@ -2,15 +2,14 @@
 use Rattle.std.proofs.Common.{◌≡◌, ◌⊎◌, inl, inr, refl, sym, ◌∙◌, ap, subst, Option, Some, None, List, [], ◌∷◌, ◌++◌, ℕ, suc, Bool, true, false, length, is_some, not, ◌&&◌, ◌||◌, if◌then◌else◌, true≢false}
 use Rattle.std.proofs.lemmas.Option.{none-some, same_Some}
 use Rattle.da_tables.proofs.Cases.{by_test, and_first, and_second, not_true}
-use Rattle.da_play.proofs.EntryParts.{InputParts, ContinuedParts, an_entry_gives, before_gives}
-use Rattle.da_invariants.proofs.Marks.{AllMarked, IsMarked, before_marked, history_marked, input_marked, continued_marked}
-use Rattle.da_invariants.proofs.OpenQueries.{nowhere}
+use Rattle.da_play.proofs.EntryParts.{InputParts, ContinuedParts, an_entry_gives}
+use Rattle.da_play.proofs.RequestParts.{EachRow, each_before, each_continued, each_input, no_rows}
+use Rattle.da_invariants.proofs.Marks.{AllMarked, IsMarked, before_marked, history_marked, keeps_marked}
 use Rattle.da_tables.proofs.Rows.{of_changed, of_appended, of_mapped, nth-unchanged, same_or_not}
 use Rattle.da_invariants.proofs.SameStage.{same_stage}
 use Rattle.da_base.specs.Words.{nth, changed_nth, passes_option}
 use Rattle.da_fields.specs.declared.answer.Answer.{Answer}
 use Rattle.da_play.specs.History.{before_input, tables_of}
-use Rattle.da_tables.specs.Tables.{with_due_replied, with_timed_out}
 use Rattle.da_request.specs.Requests.{timed_failure, timed_out, timed_out_if_over, with_decision, replied_if_due}
 use Rattle.da_request.specs.Requests.{new_request, with_text}
 use Rattle.da_request.specs.Requests.{with_answer, with_late_answer}
@@ -39,7 +38,7 @@ module _ (settings : Settings) where
   AllNotedBut m rs = (n : ℕ) (r : Request) → nth rs n ≡ Some r → (m ≡ Some n → ⊥) → IsNoted r
 
   abbrev pub AllNoted : List Request → Type 0
-  AllNoted rs = (n : ℕ) (r : Request) → nth rs n ≡ Some r → IsNoted r
+  AllNoted rs = EachRow (λ n. IsNoted) rs
 
   all_but_none : (rs : List Request) → AllNoted rs → AllNotedBut None rs
   all_but_none rs p n r e h = p n r e
@@ -161,10 +160,10 @@ module _ (settings : Settings) where
     all_noted tables m = AllNoted tables.requests
 
     abbrev marks : InputParts settings moment before entered (λ tables m. AllMarked tables.requests)
-    marks = input_marked settings moment before entered hits
+    marks = each_input settings moment before entered hits (λ n. IsMarked) (keeps_marked settings moment before entered)
 
     abbrev later_marks : ContinuedParts settings moment before entered hits (λ tables m done. AllMarked tables.requests) (λ tables m. AllMarked tables.requests)
-    later_marks = continued_marked settings moment before entered hits
+    later_marks = each_continued settings moment before entered hits (λ n. IsMarked) (keeps_marked settings moment before entered)
 
     end_noted : (conn : ℕ) → AllNotedBut None before.requests → AllNotedBut None (with_end conn before).requests
     unfolding with_end
@@ -212,28 +211,12 @@ module _ (settings : Settings) where
       kept = λ tables m query given a l run is k q. q;
     }
 
-  due_all : (moment : ℕ) (tables : Tables) → AllNoted tables.requests → AllNoted (with_due_replied settings moment tables).requests
-  unfolding with_due_replied
-  due_all moment tables p n r e =
-      let was : (s : Request) × (nth tables.requests n ≡ Some s) × (r ≡ replied_if_due settings moment s) = of_mapped (replied_if_due settings moment) tables.requests n r e in
-      subst IsNoted (sym was.2) (due_noted moment was.0 (p n was.0 was.1))
-
-  timed_all : (moment : ℕ) (tables : Tables) → AllNoted tables.requests → AllNoted (with_timed_out settings moment tables).requests
-  unfolding with_timed_out
-  timed_all moment tables p n r e =
-      let was : (s : Request) × (nth tables.requests n ≡ Some s) × (r ≡ timed_out_if_over settings moment s) = of_mapped (timed_out_if_over settings moment) tables.requests n r e in
-      subst IsNoted (sym was.2) (time_out_noted moment was.0 (p n was.0 was.1))
-
   pub before_noted : (moment : ℕ) (input : Input) (tables : Tables) → AllNoted tables.requests → AllNoted (before_input settings moment input tables).requests
   before_noted moment input tables p =
-      before_gives settings moment tables input (λ t. AllNoted t.requests) (λ t. AllNoted t.requests) (λ t. AllNoted t.requests)
-      (record { takes = λ is. p; stays = p; times_out = timed_all moment; replies = due_all moment })
-
-  start_noted : AllNoted []
-  start_noted n r e = absurd (nowhere n r e)
+      each_before settings moment (λ n. IsNoted) (λ n. IsNoted) (λ n. IsNoted) (record { times_out = λ n. time_out_noted moment; replies = λ n. due_noted moment }) input tables p
 
   pub history_noted : (h : List Entry) → AllNoted (tables_of settings h).requests
-  history_noted [] = start_noted
+  history_noted [] = no_rows (λ n. IsNoted)
   history_noted (e ∷ g) =
       let before : Tables = before_input settings e.moment e.input (tables_of settings g) in
       an_entry_gives settings (tables_of settings g) e (noted_but e.moment before e.input e.hits) (all_noted e.moment before e.input e.hits)
