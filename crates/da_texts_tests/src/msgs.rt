@@ -218,13 +218,34 @@ fn fails_with(alloc: Global, code: Option<Code>, wanted: &[u8]) -> Result<bool, 
 }
 
 const CODES: [(Option<Code>, &[u8]); 8] = [
-    (Some(Code::Temp), b"FAIL\t9\tauthz\ttemp\tcode=temp\treason=why"),
-    (Some(Code::Disabled), b"FAIL\t9\tauthz\ttemp\tcode=disabled\treason=why"),
-    (Some(Code::Expired), b"FAIL\t9\tauthz\ttemp\tcode=expired\treason=why"),
-    (Some(Code::Timeout), b"FAIL\t9\tauthz\ttemp\tcode=timeout\treason=why"),
-    (Some(Code::Protocol), b"FAIL\t9\tauthz\ttemp\tcode=protocol\treason=why"),
-    (Some(Code::Authz), b"FAIL\t9\tauthz\ttemp\tcode=authz\treason=why"),
-    (Some(Code::Credentials), b"FAIL\t9\tauthz\ttemp\tcode=credentials\treason=why"),
+    (
+        Some(Code::Temp),
+        b"FAIL\t9\tauthz\ttemp\tcode=temp\treason=why",
+    ),
+    (
+        Some(Code::Disabled),
+        b"FAIL\t9\tauthz\ttemp\tcode=disabled\treason=why",
+    ),
+    (
+        Some(Code::Expired),
+        b"FAIL\t9\tauthz\ttemp\tcode=expired\treason=why",
+    ),
+    (
+        Some(Code::Timeout),
+        b"FAIL\t9\tauthz\ttemp\tcode=timeout\treason=why",
+    ),
+    (
+        Some(Code::Protocol),
+        b"FAIL\t9\tauthz\ttemp\tcode=protocol\treason=why",
+    ),
+    (
+        Some(Code::Authz),
+        b"FAIL\t9\tauthz\ttemp\tcode=authz\treason=why",
+    ),
+    (
+        Some(Code::Credentials),
+        b"FAIL\t9\tauthz\ttemp\tcode=credentials\treason=why",
+    ),
     (None, b"FAIL\t9\tauthz\ttemp\treason=why"),
 ];
 

@@ -117,6 +117,10 @@ fn the_usage_names_each_command(rt: HostRuntime) -> Result<(), Fail> {
     for name in b"drive|check|worker|pw|serve".split(|byte| *byte == b'|') {
         assert!(rt; has_line_of(told.bytes(), name));
     }
-    assert!(rt; told.bytes().split(|byte| *byte == b'\n').all(|line| line.len() <= 80));
+    assert!(rt;
+        told.bytes()
+            .split(|byte| *byte == b'\n')
+            .all(|line| line.len() <= 80)
+    );
     Ok(())
 }

@@ -5,8 +5,14 @@ use std::alloc::{AllocError, Global};
 
 /// Each command, and what its values are for, in a line of at most 80 columns.
 const COMMANDS: [(&str, &str); 5] = [
-    ("drive", "PATH: play a script of events, and write each reply"),
-    ("check", "PATH: read a settings file, and count its databases"),
+    (
+        "drive",
+        "PATH: play a script of events, and write each reply",
+    ),
+    (
+        "check",
+        "PATH: read a settings file, and count its databases",
+    ),
     ("worker", "PATH: answer queries by passwd-files"),
     ("pw", "SCHEME: make the stored form of a password"),
     (
