@@ -1,7 +1,7 @@
 -- Where a value of a row comes from: it was there before, or it is new.
-use Rattle.std.proofs.Common.{◌≡◌, ◌⊎◌, inl, inr, sym, ◌∙◌, ap, subst, Option, Some, None, List, [], ◌∷◌, ◌++◌, ℕ, suc, map, length}
+use Rattle.std.proofs.Common.{◌≡◌, ◌⊎◌, inl, inr, sym, ◌∙◌, ap, subst, Option, Some, None, List, [], ◌∷◌, ◌++◌, ℕ, suc, length}
 use Rattle.std.proofs.lemmas.Option.{none-some}
-use Rattle.da_tables.proofs.Rows.{of_changed, of_appended, of_mapped}
+use Rattle.da_tables.proofs.Rows.{of_changed, of_appended}
 use Rattle.da_base.specs.Words.{nth, changed_nth}
 
 -- F is a value that a row may have, Same says what of a row doesn't change, and New says which values are new
@@ -34,17 +34,6 @@ module _ {A X : Type 0} (F : A → Option X) (Same : A → A → Type 0) (New : 
             which : (F b ≡ Some x) ⊎ New m (f b) x → WasThere n a x ⊎ New n a x
             which (inl y) = after_continued n a b x (subst (λ (z : A). Same z b) (sym w) (keeps b)) (p n b x (ap (nth xs) d ∙ at) y)
             which (inr y) = inr (subst (λ (z : A). New n z x) (sym w) (subst (λ (k : ℕ). New k (f b) x) (sym d) y))
-
-    -- the same for each row
-    pub came_mapped : (f : A → A) (xs : List A) → ((a : A) → Same (f a) a) → ((n : ℕ) (a : A) (x : X) → nth xs n ≡ Some a → F (f a) ≡ Some x → (F a ≡ Some x) ⊎ New n (f a) x) → AllCame xs → AllCame (map f xs)
-    came_mapped f xs keeps h p n a x is e = go (of_mapped f xs n a is)
-      where
-        go : (b : A) × (nth xs n ≡ Some b) × (a ≡ f b) → WasThere n a x ⊎ New n a x
-        go (b, at, w) = which (h n b x at (sym (ap F w) ∙ e))
-          where
-            which : (F b ≡ Some x) ⊎ New n (f b) x → WasThere n a x ⊎ New n a x
-            which (inl y) = after_continued n a b x (subst (λ (z : A). Same z b) (sym w) (keeps b)) (p n b x at y)
-            which (inr y) = inr (subst (λ (z : A). New n z x) (sym w) y)
 
     -- a new row without a value
     pub came_longer : (xs : List A) (new : A) → F new ≡ None → AllCame xs → AllCame (xs ++ new ∷ [])
