@@ -1,7 +1,7 @@
 -- Expired passwords let nobody in, and codes are told to those who know them.
 use Rattle.std.proofs.Common.{◌≡◌, refl, sym, ◌∙◌, ap, Option, Some, None, [], ◌∷◌, ℕ, ◌≤◌, ◌<◌, ◌==◌, Bool, true, false, if◌then◌else◌, nat_le, true≢false, arith}
+use Rattle.da_laws.proofs.WhatTestsSay.{at_most, is_at_most}
 use Rattle.std.proofs.lemmas.Bool.{eqb-true}
-use Rattle.std.proofs.lemmas.Bool.Decides.{nat_tests}
 use Rattle.std.proofs.lemmas.Option.{same_Some}
 use Rattle.da_base.specs.Words.{nth, passes_option}
 use Rattle.da_laws.proofs.GrantStands.{grants_stand}
@@ -38,20 +38,17 @@ told_line settings tables n r b d here e k = replies_are_lines settings tables n
 knows_by : (tables : Tables) (conn : ℕ) (c : Connection) → nth tables.connections conn ≡ Some c → knows_codes_in tables conn ≡ knows_codes c
 knows_by tables conn c there = ap (passes_option knows_codes) there
 
-at_least : (m n : ℕ) → m ≤ n → nat_le m n ≡ true
-at_least m n h = grind (arith, nat_tests, h)
-
 too_few : (n : ℕ) → n < 2 → nat_le 2 n ≡ false
 too_few n h = go (nat_le 2 n) refl
   where
     go : (b : Bool) → nat_le 2 n ≡ b → b ≡ false
-    go true e = (let most : 2 ≤ n = grind (arith, nat_tests, e) in let bad : ⊥ = omega (arith, most, h) in absurd bad)
+    go true e = (let most : 2 ≤ n = at_most 2 n e in let bad : ⊥ = omega (arith, most, h) in absurd bad)
     go false e = refl
 
 pub codes_are_told : CodesAreTold
 codes_are_told settings tables n r c minor user authz temp disabled code reason here there said least e =
     told_line settings tables n r true (Failure user authz temp disabled code reason) here e
-    (knows_by tables r.conn c there ∙ ap (passes_option (λ m. nat_le 2 m)) said ∙ at_least 2 minor least)
+    (knows_by tables r.conn c there ∙ ap (passes_option (λ m. nat_le 2 m)) said ∙ is_at_most 2 minor least)
 
 pub others_see_no_code : OthersSeeNoCode
 others_see_no_code settings tables n r c user authz temp disabled code reason here there lesser e =

@@ -1,5 +1,6 @@
 -- What a use of an answer compares is what it tests.
 use Rattle.std.proofs.Common.{◌≡◌, ◌⊎◌, inl, inr, refl, sym, ◌∙◌, ap, Option, Some, None, List, ℕ, zero, suc, Bool, true, false, cond, not, ◌&&◌, is_none, option_and_then}
+use Rattle.da_laws.proofs.WhatTestsSay.{chained}
 use Rattle.std.proofs.lemmas.Option.{none-some, same_Some}
 use Rattle.da_tables.proofs.Cases.{and_first, and_second, not_true}
 use Rattle.da_base.specs.Words.{Bytes, nth, passes_option}
@@ -95,11 +96,6 @@ check_is_test db login checked Unknown c e = absurd (none-some c e)
 check_is_test db login checked (Internal why) c e = absurd (none-some c e)
 
 -- ---- one use
-
--- what a chain of options gives, each of them gives
-pub chained : {A B : Type 0} (f : A → Option B) (o : Option A) (y : B) → option_and_then f o ≡ Some y → (x : A) × (o ≡ Some x) × (f x ≡ Some y)
-chained f None y e = absurd (none-some y e)
-chained f (Some x) y e = (x, refl, e)
 
 pub comparisons_are_of_passwords : ComparisonsAreOfPasswords
 comparisons_are_of_passwords settings r q answer c e = go (is_authentication r.body) e

@@ -1,7 +1,6 @@
 -- How long final replies are held back, from the laws on what is due.
 use Rattle.std.proofs.Common.{◌≡◌, ◌⊎◌, inl, inr, refl, sym, ◌∙◌, ap, ap₂, subst, Option, Some, None, List, ◌∷◌, ℕ, ◌≤◌, Bool, true, false, cond, not, ◌&&◌, nat_le, option_map, is_some, true≢false, arith}
 use Rattle.da_msgs.specs.declared.code.Code.{Code}
-use Rattle.std.proofs.lemmas.Bool.Decides.{nat_tests}
 use Rattle.std.proofs.lemmas.Option.{same_Some}
 use Rattle.da_base.specs.Words.{Bytes, later, nth, passes_option}
 use Rattle.da_settings.specs.declared.settings.Settings.{Settings}
@@ -13,14 +12,9 @@ use Rattle.da_invariants.proofs.Marks.{history_marked}
 use Rattle.da_tables.proofs.Cases.{by_test}
 use Rattle.da_laws.proofs.DueLaw.{all_rest, due_after}
 use Rattle.da_laws.proofs.ReplyDue.{replies_are_due}
+use Rattle.da_laws.proofs.WhatTestsSay.{and_false, at_most, is_at_most}
 use Rattle.da_play.specs.History.{tables_of}
 use Rattle.da_play.specs.declared.input.Entry.{Entry}
-
-at_most : (m n : ℕ) → nat_le m n ≡ true → m ≤ n
-at_most m n e = grind (arith, nat_tests, e)
-
-is_at_most : (m n : ℕ) → m ≤ n → nat_le m n ≡ true
-is_at_most m n h = grind (arith, nat_tests, h)
 
 -- ---- the delay of a request
 
@@ -42,11 +36,7 @@ unfolding reply_delay
 others_rush settings r (inl e) = ap (λ b. cond (b && not (has_nodelay r.answers)) settings.failure_delay 0) e
 others_rush settings r (inr e) =
     ap (λ b. cond (passes_option is_failure (decision settings r) && not b) settings.failure_delay 0) e
-    ∙ ap (λ b. cond b settings.failure_delay 0) (never (passes_option is_failure (decision settings r)))
-  where
-    never : (b : Bool) → (b && false) ≡ false
-    never true = refl
-    never false = refl
+    ∙ ap (λ b. cond b settings.failure_delay 0) (and_false (passes_option is_failure (decision settings r)))
 
 -- ---- a reply in time
 

@@ -1,6 +1,7 @@
 -- After an entry no reply that is due is left over.
-use Rattle.std.proofs.Common.{◌≡◌, refl, sym, ◌∙◌, ap, ap₂, Option, Some, None, option_map, if◌then◌else◌, List, ◌∷◌, ℕ, Bool, true, false, cond, not, ◌&&◌, is_some, true≢false, nat_le}
+use Rattle.std.proofs.Common.{◌≡◌, refl, sym, ◌∙◌, ap, ap₂, Option, Some, None, option_map, if◌then◌else◌, List, ◌∷◌, ℕ, Bool, true, false, cond, not, ◌&&◌, is_some, nat_le}
 use Rattle.da_tables.proofs.Cases.{by_test, and_second, not_true}
+use Rattle.da_laws.proofs.WhatTestsSay.{and_false, late_undecided}
 use Rattle.da_invariants.proofs.Standing.{same_decision}
 use Rattle.da_steps.proofs.Standing.{is_there}
 use Rattle.da_steps.specs.Standing.{RequestStands}
@@ -23,10 +24,6 @@ use Rattle.da_request.specs.Requests.{cancelled}
 -- its reply isn't due
 abbrev Rests : Settings → ℕ → ℕ → Request → Type 0
 Rests settings moment n r = is_due settings moment r ≡ false
-
-and_false : (a : Bool) → (a && false) ≡ false
-and_false true = refl
-and_false false = refl
 
 -- a request that isn't held isn't due
 unheld : (settings : Settings) (moment : ℕ) (r : Request) → is_held r ≡ false → is_due settings moment r ≡ false
@@ -86,13 +83,9 @@ unfolding is_due
 late_rests settings moment db answer r e = by_test (λ s. is_due settings moment s ≡ false) (is_some r.decided && not r.is_timed_out) r (with_answer db answer r)
     (λ w. e) (λ w. go r.is_timed_out refl w)
   where
-    open_still : (b : Bool) → r.is_timed_out ≡ false → (b && not r.is_timed_out) ≡ false → b ≡ false
-    open_still true t w = absurd (true≢false (sym (ap not t) ∙ w))
-    open_still false t w = refl
-
     go : (b : Bool) → r.is_timed_out ≡ b → (is_some r.decided && not r.is_timed_out) ≡ false → is_due settings moment (with_answer db answer r) ≡ false
     go true t w = ap (λ (o : Option ℕ). is_held r && passes_option (λ due. nat_le due moment) o) (answered_due settings db answer r t r.decided) ∙ e
-    go false t w = unheld settings moment (with_answer db answer r) (ap (λ b. b && not r.is_cancelled && not (is_some r.replied)) (open_still (is_some r.decided) t w))
+    go false t w = unheld settings moment (with_answer db answer r) (ap (λ b. b && not r.is_cancelled && not (is_some r.replied)) (late_undecided r t w))
 
 keeps : (settings : Settings) (moment : ℕ) (before : Tables) (entered : Input) → EachKeeps settings moment before entered (Rests settings moment)
 keeps settings moment before entered = record {

@@ -1,12 +1,13 @@
 -- What a grant stands on.
-use Rattle.std.proofs.Common.{◌≡◌, refl, sym, ◌∙◌, ap, subst, Option, Some, None, List, [], ◌∷◌, ℕ, zero, suc, ◌≤◌, Bool, true, false, cond, not, ◌&&◌, ◌==◌, nat_le, bytes_eq, option_map, option_and_then, true≢false, arith}
+use Rattle.std.proofs.Common.{◌≡◌, refl, sym, ◌∙◌, ap, subst, Option, Some, None, ℕ, Bool, true, false, cond, not, ◌&&◌, ◌==◌, nat_le, bytes_eq, option_map, option_and_then}
 use Rattle.std.proofs.lemmas.Option.{none-some, same_Some}
 use Rattle.std.proofs.lemmas.Bool.{eqb-true}
-use Rattle.std.proofs.lemmas.Bool.Decides.{nat_tests}
 use Rattle.std.proofs.lemmas.Slice.Eq.{bytes_eq-Decides}
-use Rattle.da_base.specs.Words.{Bytes, later, nth, number_where, one_further, passes_option}
+use Rattle.da_base.specs.Words.{Bytes, later, nth}
 use Rattle.da_userdb.specs.declared.database.Lookup.{Lookup}
 use Rattle.da_tables.proofs.Cases.{and_first, and_second, not_true}
+use Rattle.da_tables.proofs.Rows.{first_passes, mapped_value, passing}
+use Rattle.da_laws.proofs.WhatTestsSay.{at_most, chained}
 use Rattle.da_request.specs.Attempts.{vars_for}
 use Rattle.da_tables.specs.Connections.{has_pid, request_number}
 use Rattle.da_laws.specs.GrantLaws.{StandsOn, GrantsStand}
@@ -26,40 +27,9 @@ use Rattle.da_request.specs.declared.request.Grant.{Grant}
 use Rattle.da_request.specs.declared.request.Request.{Request}
 use Rattle.da_tables.specs.declared.tables.Tables.{Tables}
 
--- ---- the first item that passes a test passes it
-
-further_passes : {A : Type 0} (comparison : A → Bool) (x y : A) (xs : List A) (k : ℕ) → (nth xs k ≡ Some y → comparison y ≡ true) → nth (x ∷ xs) (one_further k) ≡ Some y → comparison y ≡ true
-further_passes comparison x y xs zero h e = absurd (none-some y e)
-further_passes comparison x y xs (suc k) h e = h e
-
-first_passes : {A : Type 0} (comparison : A → Bool) (xs : List A) (y : A) → nth xs (number_where comparison xs) ≡ Some y → comparison y ≡ true
-first_passes comparison [] y e = absurd (none-some y e)
-first_passes comparison (x ∷ xs) y e = go (comparison x) refl (first_passes comparison xs y) e
-  where
-    go : (b : Bool) → comparison x ≡ b → (nth xs (number_where comparison xs) ≡ Some y → comparison y ≡ true) → nth (x ∷ xs) (cond b 1 (one_further (number_where comparison xs))) ≡ Some y → comparison y ≡ true
-    go true t later e = subst (λ z. comparison z ≡ true) (same_Some x y e) t
-    go false t later e = further_passes comparison x y xs (number_where comparison xs) later e
-
--- ---- what tests say
-
-passing : {A : Type 0} (comparison : A → Bool) (o : Option A) → passes_option comparison o ≡ true → (x : A) × (o ≡ Some x) × (comparison x ≡ true)
-passing comparison None e = absurd (true≢false (sym e))
-passing comparison (Some x) e = (x, refl, e)
-
 cond_gives : {A : Type 0} (b : Bool) (x : Option A) (y : A) → cond b x None ≡ Some y → (b ≡ true) × (x ≡ Some y)
 cond_gives true x y e = (refl, e)
 cond_gives false x y e = absurd (none-some y e)
-
-then_gives : {A B : Type 0} (f : A → Option B) (o : Option A) (y : B) → option_and_then f o ≡ Some y → (x : A) × (o ≡ Some x) × (f x ≡ Some y)
-then_gives f None y e = absurd (none-some y e)
-then_gives f (Some x) y e = (x, refl, e)
-
-map_gives : {A B : Type 0} (f : A → B) (o : Option A) (y : B) → option_map f o ≡ Some y → (x : A) × (o ≡ Some x) × (f x ≡ y)
-map_gives f None y e = absurd (none-some y e)
-map_gives f (Some x) y e = (x, refl, same_Some (f x) y e)
-
-at_most : (m n : ℕ) → nat_le m n ≡ true → m ≤ n
-at_most m n e = grind (arith, nat_tests, e)
 
 -- ---- the login that a lookup is for
 
@@ -86,15 +56,15 @@ module _ (settings : Settings) (moment : ℕ) (tables : Tables) (pid client : �
   login_stands conn c here has same number r made mine e =
       let both : ((is_fresh moment r && not (is_used tables number)) ≡ true) × (option_map (λ lookup. let g : Grant = record { request = number; lookup = lookup } in g) (option_and_then (lookup_with r.body) (decision settings r)) ≡ Some grant) =
       cond_gives (is_fresh moment r && not (is_used tables number)) _ grant e in
-      let found : (l : Lookup) × (option_and_then (lookup_with r.body) (decision settings r) ≡ Some l) × (record { request = number; lookup = l } ≡ grant) =
-      map_gives (λ (l : Lookup). let g : Grant = record { request = number; lookup = l } in g) _ grant both.1 in
+      let found : (l : Lookup) × (option_and_then (lookup_with r.body) (decision settings r) ≡ Some l) × (grant ≡ record { request = number; lookup = l }) =
+      mapped_value (λ (l : Lookup). let g : Grant = record { request = number; lookup = l } in g) _ grant both.1 in
       let decided : (d : Decision) × (decision settings r ≡ Some d) × (lookup_with r.body d ≡ Some found.0) =
-      then_gives (lookup_with r.body) (decision settings r) found.0 found.1 in
+      chained (lookup_with r.body) (decision settings r) found.0 found.1 in
       let login : IsLogin decided.0 found.0 = login_of r.body decided.0 found.0 decided.2 in
       let replied : (t : ℕ) × (r.replied ≡ Some t) × (nat_le moment (later t 150000) ≡ true) =
       passing (λ t. nat_le moment (later t 150000)) r.replied (and_second (not r.is_cancelled) _ (and_first (is_fresh moment r) _ both.0)) in
-      let number_is : number ≡ grant.request = ap (λ (g : Grant). g.request) found.2 in
-      let lookup_is : found.0 ≡ grant.lookup = ap (λ (g : Grant). g.lookup) found.2 in
+      let number_is : number ≡ grant.request = ap (λ (g : Grant). g.request) (sym found.2) in
+      let lookup_is : found.0 ≡ grant.lookup = ap (λ (g : Grant). g.lookup) (sym found.2) in
       let process : (p : ℕ) × (c.pid ≡ Some p) × ((p == pid) ≡ true) = passing (λ p. p == pid) c.pid (and_second (is_client c.kind && c.is_open) _ has) in
       record {
         conn = conn;

@@ -21,3 +21,4 @@ pub mod Silent
 pub mod StageLaw
 pub mod SuccessLaw
 pub mod TableLaw
+pub mod WhatTestsSay

@@ -2,6 +2,7 @@
 use Rattle.std.proofs.Common.{◌≡◌, ◌⊎◌, inl, inr, refl, sym, ◌∙◌, ap, subst, Option, Some, None, List, [], ◌∷◌, ◌++◌, ℕ, suc, Bool, true, false, length, is_some, not, ◌&&◌, ◌||◌, if◌then◌else◌, true≢false}
 use Rattle.std.proofs.lemmas.Option.{none-some, same_Some}
 use Rattle.da_tables.proofs.Cases.{by_test, and_first, and_second, not_true}
+use Rattle.da_laws.proofs.WhatTestsSay.{late_undecided}
 use Rattle.da_play.proofs.EntryParts.{InputParts, ContinuedParts, an_entry_gives}
 use Rattle.da_play.proofs.RequestParts.{EachRow, each_before, each_continued, each_input, no_rows}
 use Rattle.da_invariants.proofs.Marks.{AllMarked, IsMarked, before_marked, history_marked, keeps_marked}
@@ -95,14 +96,10 @@ module _ (settings : Settings) where
       undecided e c = true≢false (sym (ap (λ (b : Bool). not b && not (is_some r.replied) && not (is_some r.decided)) c
           ∙ ap (λ (b : Bool). not b && not (is_some r.decided)) (unreplied e (is_some r.replied) refl) ∙ ap not e) ∙ u)
 
-      open_still : (b : Bool) → r.is_timed_out ≡ false → (b && not r.is_timed_out) ≡ false → b ≡ false
-      open_still true t e = absurd (true≢false (sym (ap not t) ∙ e))
-      open_still false t e = refl
-
       more : (b : Bool) → r.is_timed_out ≡ b → (is_some r.decided && not r.is_timed_out) ≡ false → IsNoted (with_answer db answer r)
       more true t e = record { noted = λ d c. k.decided t; replied = λ x. p.replied x; has_decision = λ x. timed_decision (with_answer db answer r) t }
       more false t e =
-          let d : is_some r.decided ≡ false = open_still (is_some r.decided) t e in
+          let d : is_some r.decided ≡ false = late_undecided r t e in
           record { noted = λ x c. absurd (undecided d c); replied = λ x. p.replied x; has_decision = λ x. absurd (true≢false (sym x ∙ d)) }
 
   due_noted : (moment : ℕ) (r : Request) → IsNoted r → IsNoted (replied_if_due settings moment r)
