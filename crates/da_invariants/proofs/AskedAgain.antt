@@ -27,22 +27,13 @@ use Rattle.da_settings.specs.declared.settings.Settings.{Settings}
 use Rattle.da_steps.proofs.Standing.{all_same, input_stands, rest_stands, tables_later, undecided_is}
 use Rattle.da_steps.specs.Standing.{QueryStands, RequestStands, TablesStand}
 use Rattle.da_tables.proofs.Cases.{by_test, and_first, and_second, not_true}
-use Rattle.da_tables.proofs.Rows.{nth-changed, nth-last, passing}
+use Rattle.da_tables.proofs.Rows.{changed-length, nth-changed, nth-last, passing}
 use Rattle.da_tables.specs.Queries.{is_running, is_running_in}
 use Rattle.da_tables.specs.Tables.{AfterInput, continuing, continuing_none, with_query}
 use Rattle.da_tables.specs.declared.queries.QueryRow.{QueryRow}
 use Rattle.da_tables.specs.declared.tables.Tables.{Tables}
 
 -- ---- rows
-
-changed_at-length : {A : Type 0} (f : A → A) (xs : List A) (n : ℕ) → length (changed_at f xs n) ≡ length xs
-changed_at-length f [] n = refl
-changed_at-length f (x ∷ xs) zero = refl
-changed_at-length f (x ∷ xs) (suc n) = ap (λ (k : ℕ). suc k) (changed_at-length f xs n)
-
-changed-length : {A : Type 0} (f : A → A) (xs : List A) (n : ℕ) → length (changed_nth f xs n) ≡ length xs
-changed-length f xs zero = refl
-changed-length f xs (suc n) = changed_at-length f xs n
 
 -- the death of a worker fits each kind of query
 recorded_death : (kind : QueryKind) → recorded_answer kind (Internal Died) ≡ Internal Died

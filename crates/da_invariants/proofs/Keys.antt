@@ -2,7 +2,7 @@
 use Rattle.std.proofs.Common.{◌≡◌, ◌⊎◌, inl, inr, refl, sym, ◌∙◌, ap, ap₂, subst, List, [], ◌∷◌, ℕ, zero, suc, ◌+◌, ◌≤◌, Bool, true, false, cond, not, ◌&&◌, ◌||◌, length, take, ◌==◌, bytes_eq, true≢false, eq-eqb, arith}
 use Rattle.std.proofs.lemmas.Bool.{eqb-true}
 use Rattle.std.proofs.lemmas.Slice.Eq.{bytes_eq-Decides}
-use Rattle.da_tables.proofs.Cases.{and_first, and_second}
+use Rattle.da_tables.proofs.Cases.{and_first, and_second, or_true}
 use Rattle.da_base.specs.Words.{count_where}
 use Rattle.da_keys.specs.Keys.{same_kind, same_key, has_key, without_key, key_first}
 use Rattle.da_keys.specs.declared.key.Key.{Key}
@@ -46,10 +46,6 @@ pub key_is : (a : Key) → same_key a a ≡ true
 key_is a = ap₂ (λ x y. x && y) (ap₂ (λ x y. x && y) (kind_is a.kind) (eq-eqb a.db a.db refl)) (bytes_are a.user)
 
 -- ---- a key taken out
-
-or_true : (a b : Bool) → (a || b) ≡ true → (a ≡ true) ⊎ (b ≡ true)
-or_true true b e = inl refl
-or_true false b e = inr e
 
 or_first : (a b : Bool) → a ≡ true → (a || b) ≡ true
 or_first a b e = ap (λ x. x || b) e

@@ -1,8 +1,8 @@
 -- Expired passwords let nobody in, and codes are told to those who know them.
 use Rattle.std.proofs.Common.{◌≡◌, refl, sym, ◌∙◌, ap, Option, Some, None, [], ◌∷◌, ℕ, ◌≤◌, ◌<◌, ◌==◌, Bool, true, false, if◌then◌else◌, nat_le, true≢false, arith}
-use Rattle.da_laws.proofs.WhatTestsSay.{at_most, is_at_most}
 use Rattle.std.proofs.lemmas.Bool.{eqb-true}
 use Rattle.std.proofs.lemmas.Option.{same_Some}
+use Rattle.da_tables.proofs.Cases.{at_most, is_at_most}
 use Rattle.da_base.specs.Words.{nth, passes_option}
 use Rattle.da_laws.proofs.GrantStands.{grants_stand}
 use Rattle.da_laws.proofs.LineLaw.{replies_are_lines}

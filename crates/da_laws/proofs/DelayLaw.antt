@@ -9,10 +9,9 @@ use Rattle.da_request.specs.declared.request.Request.{Request}
 use Rattle.da_request.specs.Requests.{decision, due_from, has_nodelay, is_failure, reply_delay, due_moment, is_held, is_due}
 use Rattle.da_laws.specs.DelayLaws.{FailuresWait, NoneWaitsLonger, OthersAreToldAtOnce}
 use Rattle.da_invariants.proofs.Marks.{history_marked}
-use Rattle.da_tables.proofs.Cases.{by_test}
+use Rattle.da_tables.proofs.Cases.{and_false, at_most, by_test, is_at_most}
 use Rattle.da_laws.proofs.DueLaw.{all_rest, due_after}
 use Rattle.da_laws.proofs.ReplyDue.{replies_are_due}
-use Rattle.da_laws.proofs.WhatTestsSay.{and_false, at_most, is_at_most}
 use Rattle.da_play.specs.History.{tables_of}
 use Rattle.da_play.specs.declared.input.Entry.{Entry}
 

@@ -1,7 +1,7 @@
 -- After an entry no reply that is due is left over.
 use Rattle.std.proofs.Common.{◌≡◌, refl, sym, ◌∙◌, ap, ap₂, Option, Some, None, option_map, if◌then◌else◌, List, ◌∷◌, ℕ, Bool, true, false, cond, not, ◌&&◌, is_some, nat_le}
-use Rattle.da_tables.proofs.Cases.{by_test, and_second, not_true}
-use Rattle.da_laws.proofs.WhatTestsSay.{and_false, late_undecided}
+use Rattle.da_tables.proofs.Cases.{and_false, and_second, by_test, not_true}
+use Rattle.da_laws.proofs.WhatTestsSay.{late_undecided}
 use Rattle.da_invariants.proofs.Standing.{same_decision}
 use Rattle.da_steps.proofs.Standing.{is_there}
 use Rattle.da_steps.specs.Standing.{RequestStands}

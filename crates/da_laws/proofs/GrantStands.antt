@@ -5,9 +5,9 @@ use Rattle.std.proofs.lemmas.Bool.{eqb-true}
 use Rattle.std.proofs.lemmas.Slice.Eq.{bytes_eq-Decides}
 use Rattle.da_base.specs.Words.{Bytes, later, nth}
 use Rattle.da_userdb.specs.declared.database.Lookup.{Lookup}
-use Rattle.da_tables.proofs.Cases.{and_first, and_second, not_true}
+use Rattle.da_tables.proofs.Cases.{and_first, and_second, at_most, not_true}
 use Rattle.da_tables.proofs.Rows.{first_passes, mapped_value, passing}
-use Rattle.da_laws.proofs.WhatTestsSay.{at_most, chained}
+use Rattle.da_laws.proofs.WhatTestsSay.{chained}
 use Rattle.da_request.specs.Attempts.{vars_for}
 use Rattle.da_tables.specs.Connections.{has_pid, request_number}
 use Rattle.da_laws.specs.GrantLaws.{StandsOn, GrantsStand}

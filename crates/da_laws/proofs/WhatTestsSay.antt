@@ -1,18 +1,7 @@
--- What tests and chains of options say of what passes them.
-use Rattle.std.proofs.Common.{◌≡◌, refl, sym, ◌∙◌, ap, Option, Some, None, ℕ, ◌≤◌, Bool, true, false, not, ◌&&◌, nat_le, is_some, option_and_then, true≢false, arith}
-use Rattle.std.proofs.lemmas.Bool.Decides.{nat_tests}
+-- What chains of options and the test on late answers say.
+use Rattle.std.proofs.Common.{◌≡◌, refl, sym, ◌∙◌, ap, Option, Some, None, Bool, true, false, not, ◌&&◌, is_some, option_and_then, true≢false}
 use Rattle.std.proofs.lemmas.Option.{none-some}
 use Rattle.da_request.specs.declared.request.Request.{Request}
-
-pub at_most : (m n : ℕ) → nat_le m n ≡ true → m ≤ n
-at_most m n e = grind (arith, nat_tests, e)
-
-pub is_at_most : (m n : ℕ) → m ≤ n → nat_le m n ≡ true
-is_at_most m n h = grind (arith, nat_tests, h)
-
-pub and_false : (a : Bool) → (a && false) ≡ false
-and_false true = refl
-and_false false = refl
 
 -- what a chain of options gives, each of them gives
 pub chained : {A B : Type 0} (f : A → Option B) (o : Option A) (y : B) → option_and_then f o ≡ Some y → (x : A) × (o ≡ Some x) × (f x ≡ Some y)

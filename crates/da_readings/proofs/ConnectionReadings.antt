@@ -9,15 +9,12 @@ use Rattle.da_play.specs.declared.input.Entry.{Entry}
 use Rattle.da_settings.specs.declared.settings.Settings.{Settings}
 use Rattle.da_readings.specs.RowReadings.{WasOpened, NoneEnds, ConnectionsAreRead}
 use Rattle.da_steps.proofs.OpenSteps.{open_step}
+use Rattle.da_tables.proofs.Cases.{or_true}
 use Rattle.da_steps.specs.Connections.{names, ends}
 
 -- ---- a history
 
 module _ (settings : Settings) where
-  ors : (a b : Bool) → (a || b) ≡ true → (a ≡ true) ⊎ (b ≡ true)
-  ors true b x = inl refl
-  ors false b x = inr x
-
   named : (conn : ℕ) (o : Option ℕ) → names conn o ≡ true → o ≡ Some conn
   named conn None x = absurd (true≢false (sym x))
   named conn (Some n) x = ap (λ (k : ℕ). Some k) (eqb-true n conn x)
@@ -25,7 +22,7 @@ module _ (settings : Settings) where
   by_entry : (h : List Entry) (conn : ℕ) → is_open_in (tables_of settings h) conn ≡ true → WasOpened settings h conn
   by_entry [] zero o = absurd (true≢false (sym o))
   by_entry [] (suc conn) o = absurd (true≢false (sym o))
-  by_entry (e ∷ g) conn o = go (by_entry g conn) (ors (names conn (effects settings (tables_of settings g) e).opened) _ (sym (open_step settings e g conn) ∙ o))
+  by_entry (e ∷ g) conn o = go (by_entry g conn) (or_true (names conn (effects settings (tables_of settings g) e).opened) _ (sym (open_step settings e g conn) ∙ o))
     where
       go : (is_open_in (tables_of settings g) conn ≡ true → WasOpened settings g conn) →
           (names conn (effects settings (tables_of settings g) e).opened ≡ true) ⊎ ((is_open_in (tables_of settings g) conn && not (ends settings g e conn)) ≡ true) → WasOpened settings (e ∷ g) conn

@@ -17,6 +17,7 @@ use Rattle.da_steps.proofs.OpenSteps.{open_step}
 use Rattle.da_session.specs.Reading.{IsNotOpen}
 use Rattle.da_session.specs.Bridges.{IsRecorded, TakesStep, step_after}
 use Rattle.da_settings.specs.declared.settings.Settings.{Settings}
+use Rattle.da_tables.proofs.Cases.{and_false}
 use Rattle.da_tables.specs.Tables.{is_open_in}
 use Rattle.da_turn.specs.Seats.{seen}
 
@@ -53,10 +54,6 @@ module _ (terms : Terms) (may_tell : ℕ → Type 0) (conn : ℕ) (s t : PortSea
   refused_takes NothingWaits r = (r.0, other NothingWaits (λ e. cc) r.1)
   refused_takes (NotTaken query) r = (r.0, other (NotTaken query) (λ e. cc) r.1)
   refused_takes (NotLate query due) r = (r.0, other (NotLate query due) (λ e. cc) r.1)
-
-and_false : (b : Bool) → (b && false) ≡ false
-and_false true = refl
-and_false false = refl
 
 closed_by_broken : (settings : Settings) (h : List Entry) (m conn : ℕ) → is_open_in (tables_of settings (next_entry settings h m (Broken conn) ∷ h)) conn ≡ false
 unfolding effects next_entry after_input

@@ -1,6 +1,7 @@
 -- A step of play keeps a history legal.
 use Rattle.std.proofs.Common.{◌≡◌, refl, sym, ◌∙◌, ap, Option, Some, None, List, [], ◌∷◌, ℕ, Bool, true, false, cond, not, ◌&&◌, is_some, nat_lt, nat_le, option_map, option_and_then, true≢false, arith}
 use Rattle.std.proofs.lemmas.Option.{none-some}
+use Rattle.da_tables.proofs.Cases.{both_true}
 use Rattle.da_base.specs.Words.{nth, passes_option, option_or_else, later}
 use Rattle.da_play.specs.History.{tables_of}
 use Rattle.da_play.specs.Legal.{IsLegal, IsNext, is_full, is_allowed, late_from, entry_moment}
@@ -49,9 +50,6 @@ taken_has_limit settings (Some a) e = go a.taken e
     go : (o : Option ℕ) → (is_some o && not (is_some a.answer)) ≡ true → is_some (option_map (λ taken. later taken settings.query_limit) o) ≡ true
     go None e = e
     go (Some t) e = refl
-
-both_true : (a b : Bool) → a ≡ true → b ≡ true → (a && b) ≡ true
-both_true a b p q = ap (λ x. x && b) p ∙ q
 
 allowed_input : (settings : Settings) (tables : Tables) (moment : ℕ) (input : Input) → input_refusal settings tables moment input ≡ None → is_allowed settings tables moment input ≡ true
 allowed_input settings tables moment (Opened kind random) e = unless_none (nat_lt (open_count tables) settings.connections) (ConnLimit (open_count tables)) e

@@ -1,6 +1,6 @@
 -- After an entry a connection is open exactly where the entry opened it, or it was open and the entry doesn't end it.
 use Rattle.std.proofs.Common.{◌≡◌, ◌⊎◌, inl, inr, refl, sym, ◌∙◌, ap, Option, Some, None, List, [], ◌∷◌, ◌++◌, ℕ, suc, Bool, true, false, length, not, ◌&&◌, ◌||◌, ◌==◌, option_map, eq-eqb, ne_eqb}
-use Rattle.da_tables.proofs.Cases.{by_test}
+use Rattle.da_tables.proofs.Cases.{and_false, by_test}
 use Rattle.da_play.proofs.EntryParts.{ContinuedParts, connections_before, continued_gives, IsSound, sound_input}
 use Rattle.da_tables.proofs.Rows.{same_or_not, nth-changed, nth-unchanged, nth-last, nth-other}
 use Rattle.da_base.specs.Words.{Bytes, nth, changed_nth, passes_option}
@@ -41,10 +41,6 @@ open_at cs conn = passes_option (λ c. c.is_open) (nth cs conn)
 and_true : (b : Bool) → (b && true) ≡ b
 and_true true = refl
 and_true false = refl
-
-and_false : (b : Bool) → (b && false) ≡ false
-and_false true = refl
-and_false false = refl
 
 -- ---- one connection ended, or told something of itself
 

@@ -2,7 +2,8 @@
 use Rattle.std.proofs.Common.{◌≡◌, refl, sym, ◌∙◌, ap, subst, Option, Some, None, ℕ, ◌-◌, ◌<◌, ◌≤◌, Bool, true, false, cond, not, ◌&&◌, nat_le, ◌==◌, option_and_then, true≢false, arith}
 use Rattle.std.proofs.lemmas.Option.{none-some, same_Some}
 use Rattle.std.proofs.lemmas.Bool.Decides.{nat_tests}
-use Rattle.da_tables.proofs.Cases.{and_first, and_second}
+use Rattle.da_tables.proofs.Cases.{and_first, and_second, at_most, both_true, is_at_most}
+use Rattle.da_tables.proofs.Rows.{passing}
 use Rattle.da_base.specs.Words.{nth, passes_option}
 use Rattle.da_keys.specs.Keys.{has_key}
 use Rattle.da_fields.specs.declared.answer.Answer.{Answer}
@@ -21,15 +22,6 @@ not_zero n e = grind (arith, nat_tests, e)
 zero_not : (n : ℕ) → 0 < n → not (n == 0) ≡ true
 zero_not n h = grind (arith, nat_tests, h)
 
-at_most_true : (m n : ℕ) → nat_le m n ≡ true → m ≤ n
-at_most_true m n e = grind (arith, nat_tests, e)
-
-true_at_most : (m n : ℕ) → m ≤ n → nat_le m n ≡ true
-true_at_most m n h = grind (arith, nat_tests, h)
-
-both_true : (a b : Bool) → a ≡ true → b ≡ true → (a && b) ≡ true
-both_true a b p q = ap (λ x. x && b) p ∙ q
-
 three : (a b c : Bool) → (a && b && c) ≡ true → (a ≡ true) × (b ≡ true) × (c ≡ true)
 three true true c e = (refl, refl, e)
 three true false c e = absurd (true≢false (sym e))
@@ -38,11 +30,6 @@ three false b c e = absurd (true≢false (sym e))
 chosen : (b : Bool) (x n : ℕ) → cond b (Some x) None ≡ Some n → (b ≡ true) × (x ≡ n)
 chosen true x n e = (refl, same_Some x n e)
 chosen false x n e = absurd (none-some n e)
-
--- a value that passes a test
-passing : {A : Type 0} (holds : A → Bool) (o : Option A) → passes_option holds o ≡ true → (x : A) × (o ≡ Some x) × (holds x ≡ true)
-passing holds None e = absurd (true≢false (sym e))
-passing holds (Some x) e = (x, refl, e)
 
 module _ (settings : Settings) (moment : ℕ) (tables : Tables) (r : Request) (q : Question) where
   pub hit_is_usable : (n : ℕ) → hit_for settings moment tables r q ≡ Some n → IsUsable settings moment tables r q n
@@ -66,7 +53,7 @@ module _ (settings : Settings) (moment : ℕ) (tables : Tables) (r : Request) (q
             recorded = p.0.1;
             is_answer_recorded = p.1;
             has_ttl = not_zero (ttl_of settings p.0.0) all.0;
-            in_time = at_most_true (moment - p.0.1) (ttl_of settings p.0.0) all.1;
+            in_time = at_most (moment - p.0.1) (ttl_of settings p.0.0) all.1;
             may = all.2;
           }
 
@@ -86,7 +73,7 @@ module _ (settings : Settings) (moment : ℕ) (tables : Tables) (r : Request) (q
       answered =
           both_true (not (ttl_of settings u.answer == 0) && nat_le (moment - u.recorded) (ttl_of settings u.answer)) (may_use (use_comparison settings r q u.answer) u.query.comparisons)
           (both_true (not (ttl_of settings u.answer == 0)) (nat_le (moment - u.recorded) (ttl_of settings u.answer)) (zero_not (ttl_of settings u.answer) u.has_ttl)
-          (true_at_most (moment - u.recorded) (ttl_of settings u.answer) u.in_time)) u.may
+          (is_at_most (moment - u.recorded) (ttl_of settings u.answer) u.in_time)) u.may
 
       usable : is_usable settings moment tables r q n ≡ true
       usable = ap (passes_option (λ (a : QueryRow). passes_option (is_usable_answer settings moment r q a) a.answer)) u.is_there

@@ -31,6 +31,15 @@ pub nth-map : {A B : Type 0} (f : A → B) (xs : List A) (n : ℕ) → nth (map 
 nth-map f xs zero = refl
 nth-map f xs (suc n) = slice-map f xs n
 
+changed_at-length : {A : Type 0} (f : A → A) (xs : List A) (n : ℕ) → length (changed_at f xs n) ≡ length xs
+changed_at-length f [] n = refl
+changed_at-length f (x ∷ xs) zero = refl
+changed_at-length f (x ∷ xs) (suc n) = ap suc (changed_at-length f xs n)
+
+pub changed-length : {A : Type 0} (f : A → A) (xs : List A) (n : ℕ) → length (changed_nth f xs n) ≡ length xs
+changed-length f xs zero = refl
+changed-length f xs (suc n) = changed_at-length f xs n
+
 slice-changed : {A : Type 0} (f : A → A) (xs : List A) (n : ℕ) → slice_get (changed_at f xs n) n ≡ option_map f (slice_get xs n)
 slice-changed f [] n = refl
 slice-changed f (x ∷ xs) zero = refl
