@@ -3,6 +3,10 @@ use Rattle.std.specs.Prelude.{ℕ, [], ◌∷◌, ◌++◌, codes, decimal}
 use Rattle.da_base.specs.Words.{Bytes}
 use Rattle.da_tabline.specs.Escapes.{spelled}
 
+-- a session knows no codes of failures: it says the minor version 1, to the auth service and to its master side
+abbrev pub version_line : Bytes
+version_line = spelled (codes "VERSION" ∷ codes "1" ∷ codes "1" ∷ [])
+
 abbrev pub pid_line : ℕ → Bytes
 pid_line pid = spelled (codes "CPID" ∷ decimal pid ∷ [])
 

@@ -3,10 +3,9 @@ use Rattle.std.specs.Prelude.{ℕ, ◌+◌, ◌||◌, ◌&&◌, not, List, [], �
 use Rattle.std.specs.List.{flat_map}
 use Rattle.da_base.specs.Words.{Bytes, is_empty, before_byte, after_byte, option_or_else, to_base64}
 use Rattle.da_tabline.specs.Escapes.{line_fields}
-use Rattle.da_msgs.specs.Replies.{version_line}
 use Rattle.da_pop3.specs.State.{State, request_id}
 use Rattle.da_pop3.specs.ServiceLines.{is_version, is_server, opening_of, reply_of, lookup_of}
-use Rattle.da_pop3.specs.OwnLines.{pid_line, auth_line, auth_line_with, cont_line, cancel_line, request_line, plain_message}
+use Rattle.da_pop3.specs.OwnLines.{version_line, pid_line, auth_line, auth_line_with, cont_line, cancel_line, request_line, plain_message}
 use Rattle.da_pop3.specs.Commands.{is_word, is_argument, is_mechanism, is_base64, is_first_message, first_message}
 use Rattle.da_pop3.specs.declared.event.Event.{Event}
 use Rattle.da_pop3.specs.declared.event.Event.TheVariants.{Client, ClientLong, ClientEnd, Auth, Master, MailUp, MailDown}

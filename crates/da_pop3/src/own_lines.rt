@@ -5,8 +5,7 @@ ghost use Rattle.std.specs.List.{flat_map};
 ghost use Rattle.da_base.specs.Words.{to_base64};
 ghost use Rattle.da_tabline.specs.Escapes.{spelled};
 ghost use Rattle.da_tabline.specs.Spelling.{more_fields};
-ghost use Rattle.da_msgs.specs.Replies.{version_line};
-ghost use Rattle.da_pop3.specs.OwnLines.{pid_line, auth_line, auth_line_with, cont_line, cancel_line, request_line, plain_message};
+ghost use Rattle.da_pop3.specs.OwnLines.{version_line, pid_line, auth_line, auth_line_with, cont_line, cancel_line, request_line, plain_message};
 ghost use Rattle.da_pop3.specs.Table.{sasl_text};
 
 use base64::engine::general_purpose::STANDARD;

@@ -171,6 +171,8 @@ const GREETING: &[u8] =
     b"VERSION\t1\t2\nMECH\tPLAIN\tplaintext\nMECH\tCRAM-MD5\tdictionary\tactive\nMECH\tSCRAM-SHA-256\tmutual-auth\n\
 SPID\t1\nCUID\t2\nCOOKIE\tc0c0c0c0c0c0c0c0c0c0c0c0c0c0c0c0\nDONE\n";
 
+const MASTER_GREETING: &[u8] = b"VERSION\t1\t1\nSPID\t7\n";
+
 fn joined(alloc: Global, lines: &[Text]) -> Result<Vec<u8>, AllocError> {
     let mut all = Vec::new(alloc);
     for line in lines {
@@ -187,7 +189,7 @@ fn greets_a_client(alloc: Global) -> Result<bool, AllocError> {
 
 fn greets_a_master(alloc: Global) -> Result<bool, AllocError> {
     let lines = handshake(alloc, ConnKind::Master, &MECHS, 7, 2, &[0; 16])?;
-    Ok(joined(alloc, &lines)?.as_slice() == b"VERSION\t1\t1\nSPID\t7\n")
+    Ok(joined(alloc, &lines)?.as_slice() == MASTER_GREETING)
 }
 
 #[test]
