@@ -261,6 +261,7 @@ fn fail_by_printed_lines(
         authz: false,
         temp: true,
         disabled: false,
+        code: None,
         reason: None,
     };
     tell_reply(session, alloc, &failure, log)

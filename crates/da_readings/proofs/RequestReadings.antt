@@ -81,10 +81,13 @@ module _ (settings : Settings) (e : Entry) (origin : Tables) where
   unfolding is_due
   reply_came n r p = by_test (Came n) (is_due settings e.moment r) (replied e.moment r) r (λ due. record {
     decided = p.decided;
-    replied = λ m x. inr (sym (same_Some e.moment m x), λ s at. (
-      p.unreplied (none_there r.replied (not_true (is_some r.replied) (and_second (is_some r.decided && not r.is_cancelled) _ (and_first (is_held r) _ due)))) s at,
-      p.uncancelled (not_true r.is_cancelled (and_second (is_some r.decided) _ (and_first (is_some r.decided && not r.is_cancelled) _ (and_first (is_held r) _ due)))) s at,
-    ));
+    replied = λ m x. inr (
+      sym (same_Some e.moment m x),
+      λ s at. (
+        p.unreplied (none_there r.replied (not_true (is_some r.replied) (and_second (is_some r.decided && not r.is_cancelled) _ (and_first (is_held r) _ due)))) s at,
+        p.uncancelled (not_true r.is_cancelled (and_second (is_some r.decided) _ (and_first (is_some r.decided && not r.is_cancelled) _ (and_first (is_held r) _ due)))) s at,
+      ),
+    );
     undecided = p.undecided;
     unreplied = λ x. absurd (none-some e.moment (sym x));
     uncancelled = p.uncancelled;
