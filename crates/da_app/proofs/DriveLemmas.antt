@@ -6,7 +6,7 @@ use Rattle.da_command.specs.declared.status.Status.{Status}
 use Rattle.da_command.specs.declared.status.Status.TheVariants.{Done, Usage, BadScript, LongScript, BadInput, NoSettings, NoListen, NoMemory, ReadFault, WriteFault, Full, BadSettings}
 use Rattle.da_command.specs.SettingsFile.{ReadsSettings}
 use Rattle.da_command.specs.Words.{drive_path}
-use Rattle.da_work.proofs.CommandRunLemmas.{unread}
+use Rattle.da_command.proofs.CommandRunLemmas.{unread}
 use Rattle.da_app.specs.Drive.{RunsWith, Drives, Completes, RunsDrive}
 use Rattle.da_app.proofs.Complete.{completes}
 

@@ -11,7 +11,7 @@ use Rattle.da_command.specs.declared.status.Status.{Status}
 use Rattle.da_command.specs.SettingsFile.{HoldsSettings}
 use Rattle.da_command.specs.Statuses.{IsDone}
 use Rattle.da_command.specs.Words.{drive_path}
-use Rattle.da_work.specs.CommandRuns.{RunsAtPath}
+use Rattle.da_command.specs.CommandRuns.{RunsAtPath}
 use Rattle.da_app.specs.Script.{is_event, first_full}
 use Rattle.da_app.specs.Play.{Ran}
 

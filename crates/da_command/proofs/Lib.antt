@@ -1,3 +1,4 @@
 pub mod Along
 pub mod SettingsFileLemmas
+pub mod CommandRunLemmas
 mod CheckLemmas

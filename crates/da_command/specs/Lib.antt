@@ -3,3 +3,4 @@ pub mod Commands
 pub mod Statuses
 pub mod SettingsFile
 pub mod Check
+pub mod CommandRuns

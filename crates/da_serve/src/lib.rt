@@ -14,6 +14,7 @@ mod finish;
 mod pairs;
 mod seats;
 mod serve;
+mod shared;
 mod words;
 
 pub use finish::finish_serve;

@@ -6,8 +6,9 @@ ghost use Rattle.da_turn.specs.Seats.{IsFree, IsOf};
 
 use crate::desk::Desk;
 use crate::seats::{Returns, Sitter, take_in};
+use crate::shared::Shared;
 use da_outside::{Clock, Pause, Rand, Sink, Source};
-use da_port::{Port, Seat};
+use da_port::Seat;
 use da_session::{read_conn, write_conn};
 use std::alloc::{AllocError, Global};
 use std::sync::atomic::{AtomicU64, Ordering};
@@ -81,82 +82,6 @@ impl<S: Source + Drop, K: Sink + Drop> Desks<S, K> {
     }
 }
 
-// What a reader's thread does. The end of its connection ends the writer, too.
-fn host_reader<R: Wait, S: Source + Drop, K: Sink + Drop, C: Clock, G: Rand + Drop, Z: Pause>(
-    rt: &R,
-    alloc: Global,
-    port: &Port,
-    mut seat: Seat,
-    desks: Desks<S, K>,
-    clock: &C,
-    mut rand: G,
-    pause: &Z,
-) -> Seat
-    requires { IsOf port.now seat × IsFree seat }
-    ensures { IsOf port.now result × IsFree result }
-{
-    for _ in rt.forever() {
-        let Some(half) = desks.reads.take(rt) else {
-            break;
-        };
-        read_half(rt, alloc, port, &mut seat, half, clock, &mut rand, pause);
-        desks.finish();
-    }
-    seat
-}
-
-fn read_half<R: Wait, S: Source + Drop, C: Clock, G: Rand, Z: Pause>(
-    rt: &R,
-    alloc: Global,
-    port: &Port,
-    seat: &mut Seat,
-    half: Half<S>,
-    clock: &C,
-    rand: &mut G,
-    pause: &Z,
-)
-    requires { IsOf port.now seat.old × IsFree seat.old }
-    ensures { IsOf port.now seat.new × IsFree seat.new }
-{
-    let Half { conn, mut stream } = half;
-    let _ = read_conn(rt, alloc, port, seat, conn, &mut stream, clock, rand, pause);
-}
-
-// What a writer's thread does. Where the sink is let go the connection is shut, which ends its reader.
-fn host_writer<R: Wait, S: Source + Drop, K: Sink + Drop, Z: Pause>(
-    rt: &R,
-    port: &Port,
-    mut seat: Seat,
-    desks: Desks<S, K>,
-    pause: &Z,
-) -> Seat
-    requires { IsOf port.now seat × IsFree seat }
-    ensures { IsOf port.now result × IsFree result }
-{
-    for _ in rt.forever() {
-        let Some(half) = desks.writes.take(rt) else {
-            break;
-        };
-        write_half(rt, port, &mut seat, half, pause);
-        desks.finish();
-    }
-    seat
-}
-
-fn write_half<R: Wait, K: Sink + Drop, Z: Pause>(
-    rt: &R,
-    port: &Port,
-    seat: &mut Seat,
-    half: Half<K>,
-    pause: &Z,
-)
-    requires { IsOf port.now seat.old × IsFree seat.old }
-    ensures { IsOf port.now seat.new × IsFree seat.new }
-{
-    let Half { conn, mut stream } = half;
-    let _ = write_conn(rt, port, seat, conn, &mut stream, pause);
-}
-
 /// Hands a connection to the first pair that is idle, or gives it back.
 pub(crate) fn give_idle<'a, R: Wait, S: Source + Drop, K: Sink + Drop>(
     rt: &R,
@@ -174,227 +99,243 @@ pub(crate) fn give_idle<'a, R: Wait, S: Source + Drop, K: Sink + Drop>(
     Some((source, sink))
 }
 
-// Starts the thread of a pair that writes. Where it can't be started the desks are closed.
-fn start_writer<
-    's,
-    E,
-    R: Threads + Wait + Sync,
-    S: Source + Send + Drop + 's,
-    K: Sink + Send + Drop + 's,
-    Z: Pause + Sync,
->(
-    scope: &Scope<'s, E>,
-    rt: &'s R,
-    port: &'s Port,
-    seat: &mut Seat,
-    desks: &Desks<S, K>,
-    shared: Desks<S, K>,
-    pause: &'s Z,
-) -> Option<Sitter<'s>>
-    requires own { IsOf port.now seat.old × IsFree seat.old }
-    ensures own { IsOf port.now seat.new × IsFree seat.new }
-    ensures writer { IfSome result (λ s. s.promise.0.now ≡ port.now) }
-{
-    let theirs = port.split(seat);
-    let writer = move || -> Seat
-        requires { IsOf port.now theirs × IsFree theirs }
-        ensures { IsOf port.entry.now result × IsFree result }
+impl<'s, R: Threads + Wait + Sync, C: Clock + Sync, Z: Pause + Sync> Shared<'s, R, C, Z> {
+    // What a reader's thread does. The end of its connection ends the writer, too.
+    fn host_reader<S: Source + Drop, K: Sink + Drop, G: Rand + Drop>(
+        self,
+        mut seat: Seat,
+        desks: Desks<S, K>,
+        mut rand: G,
+    ) -> Seat
+        requires { IsOf self.port.now seat × IsFree seat }
+        ensures { IsOf self.entry.port.now result × IsFree result }
     {
-        let mine = theirs;
-        let desks = shared;
-        host_writer(rt, port, mine, desks, pause)
-    };
-    match scope.spawn_with(Returns(port), writer) {
-        Ok(writer) => Some(writer),
-        Err(refused) => {
-            desks.close(rt);
-            let back = (refused.value)();
-            take_in(port, seat, back);
-            None
+        for _ in self.rt.forever() {
+            let Some(half) = desks.reads.take(self.rt) else {
+                break;
+            };
+            self.read_half(&mut seat, half, &mut rand);
+            desks.finish();
+        }
+        seat
+    }
+
+    fn read_half<S: Source + Drop, G: Rand>(self, seat: &mut Seat, half: Half<S>, rand: &mut G)
+        requires { IsOf self.port.now seat.old × IsFree seat.old }
+        ensures { IsOf self.entry.port.now seat.new × IsFree seat.new }
+    {
+        let Half { conn, mut stream } = half;
+        let _ = read_conn(
+            self.rt,
+            self.alloc,
+            self.port,
+            seat,
+            conn,
+            &mut stream,
+            self.clock,
+            rand,
+            self.pause,
+        );
+    }
+
+    // What a writer's thread does. Where the sink is let go the connection is shut, which ends its reader.
+    fn host_writer<S: Source + Drop, K: Sink + Drop>(
+        self,
+        mut seat: Seat,
+        desks: Desks<S, K>,
+    ) -> Seat
+        requires { IsOf self.port.now seat × IsFree seat }
+        ensures { IsOf self.entry.port.now result × IsFree result }
+    {
+        for _ in self.rt.forever() {
+            let Some(half) = desks.writes.take(self.rt) else {
+                break;
+            };
+            self.write_half(&mut seat, half);
+            desks.finish();
+        }
+        seat
+    }
+
+    fn write_half<K: Sink + Drop>(self, seat: &mut Seat, half: Half<K>)
+        requires { IsOf self.port.now seat.old × IsFree seat.old }
+        ensures { IsOf self.entry.port.now seat.new × IsFree seat.new }
+    {
+        let Half { conn, mut stream } = half;
+        let _ = write_conn(self.rt, self.port, seat, conn, &mut stream, self.pause);
+    }
+
+    // Starts the thread of a pair that writes. Where it can't be started the desks are closed.
+    fn start_writer<E, S: Source + Send + Drop + 's, K: Sink + Send + Drop + 's>(
+        self,
+        scope: &Scope<'s, E>,
+        seat: &mut Seat,
+        desks: &Desks<S, K>,
+        theirs: Desks<S, K>,
+    ) -> Option<Sitter<'s>>
+        requires own { IsOf self.port.now seat.old × IsFree seat.old }
+        ensures own { IsOf self.entry.port.now seat.new × IsFree seat.new }
+        ensures writer { IfSome result (λ s. s.promise.0.now ≡ self.entry.port.now) }
+    {
+        let their_seat = self.port.split(seat);
+        let writer = move || -> Seat
+            requires { IsOf self.port.now their_seat × IsFree their_seat }
+            ensures { IsOf self.entry.port.now result × IsFree result }
+        {
+            let mine = their_seat;
+            let desks = theirs;
+            Shared { ..self }.host_writer(mine, desks)
+        };
+        match scope.spawn_with(Returns(self.port), writer) {
+            Ok(writer) => Some(writer),
+            Err(refused) => {
+                desks.close(self.rt);
+                let back = (refused.value)();
+                take_in(self.port, seat, back);
+                None
+            }
         }
     }
-}
 
-// Starts the thread of a pair that reads. Where it can't be started the desks are closed.
-fn start_reader<
-    's,
-    E,
-    R: Threads + Wait + Sync,
-    S: Source + Send + Drop + 's,
-    K: Sink + Send + Drop + 's,
-    C: Clock + Sync,
-    G: Rand + Send + Drop + 's,
-    Z: Pause + Sync,
->(
-    scope: &Scope<'s, E>,
-    rt: &'s R,
-    alloc: Global,
-    port: &'s Port,
-    seat: &mut Seat,
-    desks: &Desks<S, K>,
-    shared: Desks<S, K>,
-    clock: &'s C,
-    rand: G,
-    pause: &'s Z,
-) -> Option<Sitter<'s>>
-    requires own { IsOf port.now seat.old × IsFree seat.old }
-    ensures own { IsOf port.now seat.new × IsFree seat.new }
-    ensures reader { IfSome result (λ s. s.promise.0.now ≡ port.now) }
-{
-    let theirs = port.split(seat);
-    let reader = move || -> Seat
-        requires { IsOf port.now theirs × IsFree theirs }
-        ensures { IsOf port.entry.now result × IsFree result }
+    // Starts the thread of a pair that reads. Where it can't be started the desks are closed.
+    fn start_reader<
+        E,
+        S: Source + Send + Drop + 's,
+        K: Sink + Send + Drop + 's,
+        G: Rand + Send + Drop + 's,
+    >(
+        self,
+        scope: &Scope<'s, E>,
+        seat: &mut Seat,
+        desks: &Desks<S, K>,
+        theirs: Desks<S, K>,
+        rand: G,
+    ) -> Option<Sitter<'s>>
+        requires own { IsOf self.port.now seat.old × IsFree seat.old }
+        ensures own { IsOf self.entry.port.now seat.new × IsFree seat.new }
+        ensures reader { IfSome result (λ s. s.promise.0.now ≡ self.entry.port.now) }
     {
-        let mine = theirs;
-        let desks = shared;
-        let rand = rand;
-        host_reader(rt, alloc, port, mine, desks, clock, rand, pause)
-    };
-    match scope.spawn_with(Returns(port), reader) {
-        Ok(reader) => Some(reader),
-        Err(refused) => {
-            desks.close(rt);
-            let back = (refused.value)();
-            take_in(port, seat, back);
-            None
+        let their_seat = self.port.split(seat);
+        let reader = move || -> Seat
+            requires { IsOf self.port.now their_seat × IsFree their_seat }
+            ensures { IsOf self.entry.port.now result × IsFree result }
+        {
+            let mine = their_seat;
+            let desks = theirs;
+            let rand = rand;
+            Shared { ..self }.host_reader(mine, desks, rand)
+        };
+        match scope.spawn_with(Returns(self.port), reader) {
+            Ok(reader) => Some(reader),
+            Err(refused) => {
+                desks.close(self.rt);
+                let back = (refused.value)();
+                take_in(self.port, seat, back);
+                None
+            }
         }
     }
-}
 
-// Starts a pair, which is idle. Where memory is wanted, or a thread can't be started, there is none.
-fn start_pair<
-    's,
-    E,
-    R: Threads + Wait + Sync,
-    S: Source + Send + Drop + 's,
-    K: Sink + Send + Drop + 's,
-    C: Clock + Sync,
-    G: Rand + Send + Drop + 's,
-    Z: Pause + Sync,
->(
-    scope: &Scope<'s, E>,
-    rt: &'s R,
-    alloc: Global,
-    port: &'s Port,
-    seat: &mut Seat,
-    clock: &'s C,
-    rand: G,
-    pause: &'s Z,
-) -> Option<Pair<'s, S, K>>
-    requires own { IsOf port.now seat.old × IsFree seat.old }
-    ensures own { IsOf port.now seat.new × IsFree seat.new }
-    ensures pair { IfSome result (λ p.
-        (p.writer.promise.0.now ≡ port.now) × (p.reader.promise.0.now ≡ port.now)) }
-{
-    let desks = Desks::new(alloc).ok()?;
-    let for_writer = desks.shared().ok()?;
-    let for_reader = desks.shared().ok()?;
-    let writer = start_writer(scope, rt, port, seat, &desks, for_writer, pause)?;
-    let reader = start_reader(
-        scope, rt, alloc, port, seat, &desks, for_reader, clock, rand, pause,
-    );
-    let Some(reader) = reader else {
-        let back = writer.join(rt);
-        take_in(port, seat, back);
-        return None;
-    };
-    Some(Pair {
-        writer,
-        reader,
-        desks,
-    })
-}
-
-/// Adds a pair that is idle. Where memory is wanted, or a thread can't be started, none is added.
-pub(crate) fn add_pair<
-    's,
-    E,
-    R: Threads + Wait + Sync,
-    S: Source + Send + Drop + 's,
-    K: Sink + Send + Drop + 's,
-    C: Clock + Sync,
-    G: Rand + Send + Drop + 's,
-    Z: Pause + Sync,
->(
-    scope: &Scope<'s, E>,
-    rt: &'s R,
-    alloc: Global,
-    port: &'s Port,
-    seat: &mut Seat,
-    pairs: &mut Vec<Pair<'s, S, K>>,
-    clock: &'s C,
-    rand: G,
-    pause: &'s Z,
-)
-    requires own { IsOf port.now seat.old × IsFree seat.old }
-    requires pairs { All (λ p.
-        (p.writer.promise.0.now ≡ port.now) × (p.reader.promise.0.now ≡ port.now)) pairs.old.items }
-    ensures own { IsOf port.now seat.new × IsFree seat.new }
-    ensures pairs { All (λ p.
-        (p.writer.promise.0.now ≡ port.now) × (p.reader.promise.0.now ≡ port.now)) pairs.new.items }
-{
-    if let Some(pair) = start_pair(scope, rt, alloc, port, seat, clock, rand, pause) {
-        keep_pair(rt, port, seat, pairs, pair);
+    // Starts a pair, which is idle. Where memory is wanted, or a thread can't be started, there is none.
+    fn start_pair<
+        E,
+        S: Source + Send + Drop + 's,
+        K: Sink + Send + Drop + 's,
+        G: Rand + Send + Drop + 's,
+    >(self, scope: &Scope<'s, E>, seat: &mut Seat, rand: G) -> Option<Pair<'s, S, K>>
+        requires own { IsOf self.port.now seat.old × IsFree seat.old }
+        ensures own { IsOf self.entry.port.now seat.new × IsFree seat.new }
+        ensures pair { IfSome result (λ p. (p.writer.promise.0.now ≡ self.entry.port.now)
+            × (p.reader.promise.0.now ≡ self.entry.port.now)) }
+    {
+        let desks = Desks::new(self.alloc).ok()?;
+        let for_writer = desks.shared().ok()?;
+        let for_reader = desks.shared().ok()?;
+        let writer = self.start_writer(scope, seat, &desks, for_writer)?;
+        let reader = self.start_reader(scope, seat, &desks, for_reader, rand);
+        let Some(reader) = reader else {
+            let back = writer.join(self.rt);
+            take_in(self.port, seat, back);
+            return None;
+        };
+        Some(Pair {
+            writer,
+            reader,
+            desks,
+        })
     }
-}
 
-// Keeps an idle pair. Where memory is wanted it ends.
-fn keep_pair<'a, R: Threads + Wait, S: Source + Drop, K: Sink + Drop>(
-    rt: &R,
-    port: &'a Port,
-    seat: &mut Seat,
-    pairs: &mut Vec<Pair<'a, S, K>>,
-    pair: Pair<'a, S, K>,
-)
-    requires own { IsOf port.now seat.old × IsFree seat.old }
-    requires pairs { All (λ p.
-        (p.writer.promise.0.now ≡ port.now) × (p.reader.promise.0.now ≡ port.now)) pairs.old.items }
-    requires pair { (pair.writer.promise.0.now ≡ port.now) × (pair.reader.promise.0.now ≡ port.now) }
-    ensures own { IsOf port.now seat.new × IsFree seat.new }
-    ensures pairs { All (λ p.
-        (p.writer.promise.0.now ≡ port.now) × (p.reader.promise.0.now ≡ port.now)) pairs.new.items }
-{
-    if let Err(refused) = pairs.push(pair) {
-        join_pair(rt, port, seat, refused.value);
+    /// Adds a pair that is idle. Where memory is wanted, or a thread can't be started, none is added.
+    pub(crate) fn add_pair<
+        E,
+        S: Source + Send + Drop + 's,
+        K: Sink + Send + Drop + 's,
+        G: Rand + Send + Drop + 's,
+    >(self, scope: &Scope<'s, E>, seat: &mut Seat, pairs: &mut Vec<Pair<'s, S, K>>, rand: G)
+        requires own { IsOf self.port.now seat.old × IsFree seat.old }
+        requires pairs { All (λ p. (p.writer.promise.0.now ≡ self.port.now)
+            × (p.reader.promise.0.now ≡ self.port.now)) pairs.old.items }
+        ensures own { IsOf self.entry.port.now seat.new × IsFree seat.new }
+        ensures pairs { All (λ p. (p.writer.promise.0.now ≡ self.entry.port.now)
+            × (p.reader.promise.0.now ≡ self.entry.port.now)) pairs.new.items }
+    {
+        if let Some(pair) = self.start_pair(scope, seat, rand) {
+            self.keep_pair(seat, pairs, pair);
+        }
     }
-}
 
-fn join_pair<R: Threads + Wait, S: Source + Drop, K: Sink + Drop>(
-    rt: &R,
-    port: &Port,
-    seat: &mut Seat,
-    pair: Pair<'_, S, K>,
-)
-    requires own { IsOf port.now seat.old × IsFree seat.old }
-    requires pair { (pair.writer.promise.0.now ≡ port.now) × (pair.reader.promise.0.now ≡ port.now) }
-    ensures { IsOf port.now seat.new × IsFree seat.new }
-{
-    let Pair {
-        writer,
-        reader,
-        desks,
-    } = pair;
-    desks.close(rt);
-    let back = writer.join(rt);
-    take_in(port, seat, back);
-    let back = reader.join(rt);
-    take_in(port, seat, back);
-}
+    // Keeps an idle pair. Where memory is wanted it ends.
+    fn keep_pair<S: Source + Drop, K: Sink + Drop>(
+        self,
+        seat: &mut Seat,
+        pairs: &mut Vec<Pair<'s, S, K>>,
+        pair: Pair<'s, S, K>,
+    )
+        requires own { IsOf self.port.now seat.old × IsFree seat.old }
+        requires pairs { All (λ p. (p.writer.promise.0.now ≡ self.port.now)
+            × (p.reader.promise.0.now ≡ self.port.now)) pairs.old.items }
+        requires pair { (pair.writer.promise.0.now ≡ self.port.now)
+            × (pair.reader.promise.0.now ≡ self.port.now) }
+        ensures own { IsOf self.entry.port.now seat.new × IsFree seat.new }
+        ensures pairs { All (λ p. (p.writer.promise.0.now ≡ self.entry.port.now)
+            × (p.reader.promise.0.now ≡ self.entry.port.now)) pairs.new.items }
+    {
+        if let Err(refused) = pairs.push(pair) {
+            self.join_pair(seat, refused.value);
+        }
+    }
 
-/// Joins the threads of all pairs, in the order of their start, once their connections have ended.
-pub(crate) fn join_pairs<R: Threads + Wait, S: Source + Drop, K: Sink + Drop>(
-    rt: &R,
-    port: &Port,
-    seat: &mut Seat,
-    pairs: Vec<Pair<'_, S, K>>,
-)
-    requires own { IsOf port.now seat.old × IsFree seat.old }
-    requires pairs { All (λ p.
-        (p.writer.promise.0.now ≡ port.now) × (p.reader.promise.0.now ≡ port.now)) pairs.items }
-    ensures { IsOf port.now seat.new × IsFree seat.new }
-{
-    for pair in pairs {
-        join_pair(rt, port, seat, pair);
+    fn join_pair<S: Source + Drop, K: Sink + Drop>(self, seat: &mut Seat, pair: Pair<'s, S, K>)
+        requires own { IsOf self.port.now seat.old × IsFree seat.old }
+        requires pair { (pair.writer.promise.0.now ≡ self.port.now)
+            × (pair.reader.promise.0.now ≡ self.port.now) }
+        ensures { IsOf self.entry.port.now seat.new × IsFree seat.new }
+    {
+        let Pair {
+            writer,
+            reader,
+            desks,
+        } = pair;
+        desks.close(self.rt);
+        let back = writer.join(self.rt);
+        take_in(self.port, seat, back);
+        let back = reader.join(self.rt);
+        take_in(self.port, seat, back);
+    }
+
+    /// Joins the threads of all pairs, in the order of their start, once their connections have ended.
+    pub(crate) fn join_pairs<S: Source + Drop, K: Sink + Drop>(
+        self,
+        seat: &mut Seat,
+        pairs: Vec<Pair<'s, S, K>>,
+    )
+        requires own { IsOf self.port.now seat.old × IsFree seat.old }
+        requires pairs { All (λ p. (p.writer.promise.0.now ≡ self.port.now)
+            × (p.reader.promise.0.now ≡ self.port.now)) pairs.items }
+        ensures { IsOf self.entry.port.now seat.new × IsFree seat.new }
+    {
+        for pair in pairs {
+            self.join_pair(seat, pair);
+        }
     }
 }

@@ -6,10 +6,9 @@ ghost use Rattle.da_serve.specs.Printed.{HasEnded};
 ghost use Rattle.da_serve.specs.Serving.{RunsServe, ServesNew, ServesUnder};
 ghost use Rattle.da_turn.specs.Seats.{IsFree, IsOf, seen};
 
-use crate::accept::accept_conns;
-use crate::crew::start_workers;
 use crate::finish::finish_serve;
 use crate::seats::{join_all, take_in};
+use crate::shared::Shared;
 use crate::words::task_of;
 use da_command::{Status, read_settings};
 use da_msgs::ConnKind;
@@ -22,254 +21,167 @@ use std::sync::Wait;
 use std::thread;
 use std::thread::{Scope, Threads};
 
-// Lets time pass until the history has ended.
-fn tick<R: Wait, C: Clock, Z: Pause>(
-    rt: &R,
-    port: &Port,
-    mut seat: Seat,
-    clock: &C,
-    pause: &Z,
-) -> Seat
-    requires { IsOf port.now seat × IsFree seat }
-    ensures own { IsOf port.now result × IsFree result }
-    ensures ended { HasEnded port.now.fixed (seen result) }
-{
-    let _ = serve_ticks(rt, port, &mut seat, clock, pause);
-    seat
-}
+impl<'s, R: Threads + Wait + Sync, C: Clock + Sync, Z: Pause + Sync> Shared<'s, R, C, Z> {
+    // Lets time pass until the history has ended.
+    fn tick(self, mut seat: Seat) -> Seat
+        requires { IsOf self.port.now seat × IsFree seat }
+        ensures own { IsOf self.entry.port.now result × IsFree result }
+        ensures ended { HasEnded self.entry.port.now.fixed (seen result) }
+    {
+        let _ = serve_ticks(self.rt, self.port, &mut seat, self.clock, self.pause);
+        seat
+    }
 
-// The masters' accepting loop beside the clients'.
-fn serve_conns<
-    R: Threads + Wait + Sync,
-    L: Listen + Send,
-    C: Clock + Sync,
-    G: Rand + Send + Drop,
-    Z: Pause + Sync,
->(
-    rt: &R,
-    alloc: Global,
-    port: &Port,
-    seat: Seat,
-    other: Seat,
-    goal: Option<Goal>,
-    clients: &mut L,
-    masters: &mut L,
-    clock: &C,
-    rand: &mut G,
-    pause: &Z,
-) -> (Seat, Seat)
-where
-    L::Source: Send + Drop,
-    L::Sink: Send + Drop,
-    requires { (IsOf port.now seat × IsFree seat) × (IsOf port.now other × IsFree other) }
-    ensures { (IsOf port.now result.0 × IsFree result.0) × (IsOf port.now result.1 × IsFree result.1) }
-{
-    let client_limit = goal.map(|goal| goal.clients);
-    let master_limit = goal.map(|goal| goal.masters);
-    let client_rand = rand.fork();
-    let master_rand = rand.fork();
-    thread::join(
-        rt,
-        || -> Seat
-            requires { IsOf port.now other × IsFree other }
-            ensures { IsOf port.entry.now result × IsFree result }
-        {
-            let mine = other;
-            let rand = master_rand;
-            accept_conns(
-                rt,
-                alloc,
-                port,
-                mine,
-                ConnKind::Master,
-                masters,
-                master_limit,
-                clock,
-                rand,
-                pause,
-            )
-        },
-        || -> Seat
-            requires { IsOf port.now seat × IsFree seat }
-            ensures { IsOf port.entry.now result × IsFree result }
-        {
-            let mine = seat;
-            let rand = client_rand;
-            accept_conns(
-                rt,
-                alloc,
-                port,
-                mine,
-                ConnKind::Client,
-                clients,
-                client_limit,
-                clock,
-                rand,
-                pause,
-            )
-        },
-    )
-}
+    // The masters' accepting loop beside the clients'.
+    fn serve_conns<L: Listen + Send, G: Rand + Send + Drop>(
+        self,
+        seat: Seat,
+        other: Seat,
+        goal: Option<Goal>,
+        clients: &mut L,
+        masters: &mut L,
+        rand: &mut G,
+    ) -> (Seat, Seat)
+    where
+        L::Source: Send + Drop,
+        L::Sink: Send + Drop,
+        requires { (IsOf self.port.now seat × IsFree seat) × (IsOf self.port.now other × IsFree other) }
+        ensures { (IsOf self.entry.port.now result.0 × IsFree result.0)
+            × (IsOf self.entry.port.now result.1 × IsFree result.1) }
+    {
+        let client_limit = goal.map(|goal| goal.clients);
+        let master_limit = goal.map(|goal| goal.masters);
+        let client_rand = rand.fork();
+        let master_rand = rand.fork();
+        thread::join(
+            self.rt,
+            || -> Seat
+                requires { IsOf self.port.now other × IsFree other }
+                ensures { IsOf self.entry.port.now result × IsFree result }
+            {
+                let mine = other;
+                let rand = master_rand;
+                Shared { ..self }.accept_conns(mine, ConnKind::Master, masters, master_limit, rand)
+            },
+            || -> Seat
+                requires { IsOf self.port.now seat × IsFree seat }
+                ensures { IsOf self.entry.port.now result × IsFree result }
+            {
+                let mine = seat;
+                let rand = client_rand;
+                Shared { ..self }.accept_conns(mine, ConnKind::Client, clients, client_limit, rand)
+            },
+        )
+    }
 
-// The clock beside the accepting loops. Where no thread can be made for it, it comes last, and ends at once.
-fn serve_sockets<
-    R: Threads + Wait + Sync,
-    L: Listen + Send,
-    C: Clock + Sync,
-    G: Rand + Send + Drop,
-    Z: Pause + Sync,
->(
-    rt: &R,
-    alloc: Global,
-    port: &Port,
-    mut seat: Seat,
-    goal: Option<Goal>,
-    clients: &mut L,
-    masters: &mut L,
-    clock: &C,
-    rand: &mut G,
-    pause: &Z,
-) -> Seat
-where
-    L::Source: Send + Drop,
-    L::Sink: Send + Drop,
-    requires { IsOf port.now seat × IsFree seat }
-    ensures own { IsOf port.now result × IsFree result }
-    ensures ended { HasEnded port.now.fixed (seen result) }
-{
-    let ticks = port.split(&mut seat);
-    let other = port.split(&mut seat);
-    let (mut ended, (seat, other)) = thread::join(
-        rt,
-        || -> Seat
-            requires { IsOf port.now ticks × IsFree ticks }
-            ensures { (IsOf port.entry.now result × IsFree result)
-                × HasEnded port.entry.now.fixed (seen result) }
-        {
-            let mine = ticks;
-            tick(rt, port, mine, clock, pause)
-        },
-        || -> (Seat, Seat)
-            requires { (IsOf port.now seat × IsFree seat) × (IsOf port.now other × IsFree other) }
-            ensures { (IsOf port.entry.now result.0 × IsFree result.0)
-                × (IsOf port.entry.now result.1 × IsFree result.1) }
-        {
-            let mine = seat;
-            let theirs = other;
-            serve_conns(
-                rt, alloc, port, mine, theirs, goal, clients, masters, clock, rand, pause,
-            )
-        },
-    );
-    take_in(port, &mut ended, seat);
-    take_in(port, &mut ended, other);
-    ended
-}
+    // The clock beside the accepting loops. Where no thread can be made for it, it comes last, and ends at once.
+    fn serve_sockets<L: Listen + Send, G: Rand + Send + Drop>(
+        self,
+        mut seat: Seat,
+        goal: Option<Goal>,
+        clients: &mut L,
+        masters: &mut L,
+        rand: &mut G,
+    ) -> Seat
+    where
+        L::Source: Send + Drop,
+        L::Sink: Send + Drop,
+        requires { IsOf self.port.now seat × IsFree seat }
+        ensures own { IsOf self.entry.port.now result × IsFree result }
+        ensures ended { HasEnded self.entry.port.now.fixed (seen result) }
+    {
+        let ticks = self.port.split(&mut seat);
+        let other = self.port.split(&mut seat);
+        let (mut ended, (seat, other)) = thread::join(
+            self.rt,
+            || -> Seat
+                requires { IsOf self.port.now ticks × IsFree ticks }
+                ensures { (IsOf self.entry.port.now result × IsFree result)
+                    × HasEnded self.entry.port.now.fixed (seen result) }
+            {
+                let mine = ticks;
+                Shared { ..self }.tick(mine)
+            },
+            || -> (Seat, Seat)
+                requires { (IsOf self.port.now seat × IsFree seat)
+                    × (IsOf self.port.now other × IsFree other) }
+                ensures { (IsOf self.entry.port.now result.0 × IsFree result.0)
+                    × (IsOf self.entry.port.now result.1 × IsFree result.1) }
+            {
+                let mine = seat;
+                let theirs = other;
+                Shared { ..self }.serve_conns(mine, theirs, goal, clients, masters, rand)
+            },
+        );
+        take_in(self.port, &mut ended, seat);
+        take_in(self.port, &mut ended, other);
+        ended
+    }
 
-// The workers, and all else beside them.
-fn serve_in<
-    's,
-    E,
-    R: Threads + Wait + Sync,
-    L: Listen + Send,
-    W: Crew,
-    C: Clock + Sync,
-    G: Rand + Send + Drop,
-    Z: Pause + Sync,
->(
-    scope: &Scope<'s, E>,
-    rt: &'s R,
-    alloc: Global,
-    port: &'s Port,
-    mut seat: Seat,
-    settings: &'s Settings,
-    goal: Option<Goal>,
-    clients: &mut L,
-    masters: &mut L,
-    crew: &mut W,
-    clock: &'s C,
-    rand: &mut G,
-    pause: &'s Z,
-) -> Seat
-where
-    L::Source: Send + Drop,
-    L::Sink: Send + Drop,
-    W::Spawner: Send + Drop + 's,
-    <W::Spawner as Spawner>::Link: Send + Drop,
-    W::Runner: Send + Drop + 's,
-    requires own { IsOf port.now seat × IsFree seat }
-    requires terms { settings.now ≡ port.now.fixed.settings }
-    ensures own { IsOf port.now result × IsFree result }
-    ensures ended { HasEnded port.now.fixed (seen result) }
-{
-    let mut workers = Vec::new(alloc);
-    start_workers(
-        scope,
-        rt,
-        alloc,
-        port,
-        &mut seat,
-        &mut workers,
-        settings,
-        crew,
-        clock,
-        pause,
-    );
-    let mut seat = serve_sockets(
-        rt, alloc, port, seat, goal, clients, masters, clock, rand, pause,
-    );
-    join_all(rt, port, &mut seat, workers);
-    seat
-}
+    // The workers, and all else beside them.
+    fn serve_in<E, L: Listen + Send, W: Crew, G: Rand + Send + Drop>(
+        self,
+        scope: &Scope<'s, E>,
+        mut seat: Seat,
+        goal: Option<Goal>,
+        clients: &mut L,
+        masters: &mut L,
+        crew: &mut W,
+        rand: &mut G,
+    ) -> Seat
+    where
+        L::Source: Send + Drop,
+        L::Sink: Send + Drop,
+        W::Spawner: Send + Drop + 's,
+        <W::Spawner as Spawner>::Link: Send + Drop,
+        W::Runner: Send + Drop + 's,
+        requires own { IsOf self.port.now seat × IsFree seat }
+        requires terms { self.settings.now ≡ self.port.now.fixed.settings }
+        ensures own { IsOf self.entry.port.now result × IsFree result }
+        ensures ended { HasEnded self.entry.port.now.fixed (seen result) }
+    {
+        let mut workers = Vec::new(self.alloc);
+        self.start_workers(scope, &mut seat, &mut workers, crew);
+        let mut seat = self.serve_sockets(seat, goal, clients, masters, rand);
+        join_all(self.rt, self.port, &mut seat, workers);
+        seat
+    }
 
-// The service over a port, until its history has ended and all threads are joined.
-fn serve_port<
-    R: Threads + Wait + Sync,
-    L: Listen + Send,
-    W: Crew,
-    C: Clock + Sync,
-    G: Rand + Send + Drop,
-    Z: Pause + Sync,
->(
-    rt: &R,
-    alloc: Global,
-    port: &Port,
-    seat: Seat,
-    settings: &Settings,
-    goal: Option<Goal>,
-    clients: &mut L,
-    masters: &mut L,
-    crew: &mut W,
-    clock: &C,
-    rand: &mut G,
-    pause: &Z,
-) -> Seat
-where
-    L::Source: Send + Drop,
-    L::Sink: Send + Drop,
-    W::Spawner: Send + Drop,
-    <W::Spawner as Spawner>::Link: Send + Drop,
-    W::Runner: Send + Drop,
-    requires own { IsOf port.now seat × IsFree seat }
-    requires terms { settings.now ≡ port.now.fixed.settings }
-    ensures own { IsOf port.now result × IsFree result }
-    ensures ended { HasEnded port.now.fixed (seen result) }
-{
-    thread::scope(
-        thread::scope_env(),
-        rt,
-        |scope| -> Seat
-            requires { (IsOf port.now seat × IsFree seat) × (settings.now ≡ port.now.fixed.settings) }
-            ensures { (IsOf port.entry.now result × IsFree result)
-                × HasEnded port.entry.now.fixed (seen result) }
-        {
-            let mine = seat;
-            serve_in(
-                scope, rt, alloc, port, mine, settings, goal, clients, masters, crew, clock, rand,
-                pause,
-            )
-        },
-    )
+    // The service over a port, until its history has ended and all threads are joined.
+    fn serve_port<L: Listen + Send, W: Crew, G: Rand + Send + Drop>(
+        self,
+        seat: Seat,
+        goal: Option<Goal>,
+        clients: &mut L,
+        masters: &mut L,
+        crew: &mut W,
+        rand: &mut G,
+    ) -> Seat
+    where
+        L::Source: Send + Drop,
+        L::Sink: Send + Drop,
+        W::Spawner: Send + Drop,
+        <W::Spawner as Spawner>::Link: Send + Drop,
+        W::Runner: Send + Drop,
+        requires own { IsOf self.port.now seat × IsFree seat }
+        requires terms { self.settings.now ≡ self.port.now.fixed.settings }
+        ensures own { IsOf self.entry.port.now result × IsFree result }
+        ensures ended { HasEnded self.entry.port.now.fixed (seen result) }
+    {
+        thread::scope(
+            thread::scope_env(),
+            self.rt,
+            |scope| -> Seat
+                requires { (IsOf self.port.now seat × IsFree seat)
+                    × (self.settings.now ≡ self.port.now.fixed.settings) }
+                ensures { (IsOf self.entry.port.now result × IsFree result)
+                    × HasEnded self.entry.port.now.fixed (seen result) }
+            {
+                let mine = seat;
+                Shared { ..self }.serve_in(scope, mine, goal, clients, masters, crew, rand)
+            },
+        )
+    }
 }
 
 fn bind<L: Listen>(alloc: Global, listen: &mut L, path: &[u8]) -> Result<(), Status>
@@ -327,15 +239,21 @@ where
     W::Runner: Send + Drop,
     ensures { ServesNew settings goal (K.state output.old) (K.state output.new) result }
 {
-    let Ok(shared) = settings.copy(alloc) else {
+    let Ok(terms) = settings.copy(alloc) else {
         return Status::NoMemory;
     };
     let Ok((port, seat)) = Port::new(alloc, settings, goal) else {
         return Status::NoMemory;
     };
-    let seat = serve_port(
-        rt, alloc, &port, seat, &shared, goal, clients, masters, crew, clock, rand, pause,
-    );
+    let shared = Shared {
+        rt,
+        alloc,
+        port: &port,
+        settings: &terms,
+        clock,
+        pause,
+    };
+    let seat = shared.serve_port(seat, goal, clients, masters, crew, rand);
     finish_serve(rt, alloc, port, seat, output)
 }
 

@@ -1,2 +1,1 @@
-pub mod CommandRunLemmas
 mod WorkLemmas

@@ -15,7 +15,7 @@ use Rattle.da_command.specs.SettingsFile.{HoldsSettings, ReadsSettings}
 use Rattle.da_command.specs.Statuses.{IsDone}
 use Rattle.da_command.specs.Words.{worker_path}
 use Rattle.da_command.proofs.SettingsFileLemmas.{no_fault}
-use Rattle.da_work.proofs.CommandRunLemmas.{unread}
+use Rattle.da_command.proofs.CommandRunLemmas.{unread}
 use Rattle.da_work.specs.Work.{pass_paths, user_paths, status_of_end, RanOver, WorksOver, WorksWith, Works, IsGoodWork, CompletesWork, RunsWorker}
 
 -- by the worker's end

@@ -1,2 +1,1 @@
-pub mod CommandRuns
 pub mod Work

@@ -19,7 +19,7 @@ use Rattle.da_command.specs.declared.status.Status.TheVariants.{Done, LongScript
 use Rattle.da_command.specs.SettingsFile.{HoldsSettings, PathFails}
 use Rattle.da_command.specs.Statuses.{IsDone}
 use Rattle.da_command.specs.Words.{worker_path}
-use Rattle.da_work.specs.CommandRuns.{RunsAtPath}
+use Rattle.da_command.specs.CommandRuns.{RunsAtPath}
 
 -- ---- the databases' files
 

@@ -5,7 +5,7 @@ use Rattle.da_outside.specs.Outside.{Outside, IsUntouched}
 use Rattle.da_command.specs.declared.status.Status.{Status}
 use Rattle.da_command.specs.declared.status.Status.TheVariants.{Done, Usage, BadScript, LongScript, BadInput, NoSettings, NoListen, NoMemory, ReadFault, WriteFault, Full, BadSettings}
 use Rattle.da_command.specs.SettingsFile.{ReadsSettings}
-use Rattle.da_work.specs.CommandRuns.{RunsAtPath}
+use Rattle.da_command.specs.CommandRuns.{RunsAtPath}
 
 -- no settings were read, and nothing of the input was read and nothing written
 pub unread : (Runs : Bytes → Outside → Outside → Status → Type 0) (path : Bytes) (before after : Outside) (status : Status)
