@@ -3,8 +3,6 @@
 #![tactic(auto)]
 
 mod adapters;
-#[cfg(test)]
-mod beside;
 mod children;
 mod clock;
 mod complaints;
@@ -18,6 +16,8 @@ mod peers;
 mod programs;
 mod query_limit;
 mod random;
+#[cfg(test)]
+mod service_tests;
 mod shown;
 mod sockets;
 mod staff;
@@ -29,8 +29,6 @@ mod tests_of_children;
 mod tests_of_commands;
 #[cfg(test)]
 mod tests_of_reads;
-#[cfg(test)]
-mod tests_of_service;
 #[cfg(test)]
 mod tests_of_sockets;
 mod usage;
