@@ -74,8 +74,8 @@ abbrev pub due : ℕ → List (ℕ × Bytes) → Reply
 due entry lines = Ok (record (nothing_of entry) { due_lines = lines })
 
 -- the answer to a query is used again, and a line is sent to this connection
-abbrev pub repeated : ℕ → ℕ → ℕ → Bytes → Reply
-repeated entry query conn text = Ok (record (nothing_of entry) { hits = query ∷ []; lines = (conn, text) ∷ [] })
+abbrev pub by_hit : ℕ → ℕ → ℕ → Bytes → Reply
+by_hit entry query conn text = Ok (record (nothing_of entry) { hits = query ∷ []; lines = (conn, text) ∷ [] })
 
 -- the server closes this connection
 abbrev pub closes : ℕ → ℕ → Reply

@@ -119,7 +119,7 @@ pub fn logins_are_timed_out()
     ensures last { play (default_settings 0) [] at_the_end ≡ at_the_end_replies }
 {}
 
-/// A message at the limit isn't heard, and one before it doesn't renew the limit.
+/// A message at the limit isn't taken, and one before it doesn't renew the limit.
 pub fn messages_renew_no_limit()
     ensures at_limit { play (default_settings 0) [] said_at_limit ≡ said_at_limit_replies }
     ensures before { play login_settings [] goes_on_by_login ≡ goes_on_by_login_replies }
