@@ -95,37 +95,37 @@ one_is_lost qs k m a b x y r d v w =
     ∙ ap₂ (λ (i j : ℕ). number_where (λ (z : QueryRow). (z.request == i) && (z.question.db == j)) qs) (sym r) (sym d)
     ∙ lost_first qs m b y w
 
--- ---- what a request has heard
+-- ---- the answers that a request has
 
-abbrev pub has_heard : ℕ → Request → Bool
-has_heard db r = is_some (answer_from db r.answers)
+abbrev pub has_answer : ℕ → Request → Bool
+has_answer db r = is_some (answer_from db r.answers)
 
-heard_more : (answers more : Answers) (db : ℕ) → is_some (answer_from db answers) ≡ true → is_some (answer_from db (answers ++ more)) ≡ true
-heard_more [] more db e = absurd (true≢false (sym e))
-heard_more (p ∷ answers) more db e = go (p.0 == db) (heard_more answers more db) e
+answer_stays : (answers more : Answers) (db : ℕ) → is_some (answer_from db answers) ≡ true → is_some (answer_from db (answers ++ more)) ≡ true
+answer_stays [] more db e = absurd (true≢false (sym e))
+answer_stays (p ∷ answers) more db e = go (p.0 == db) (answer_stays answers more db) e
   where
     go : (b : Bool) → (is_some (answer_from db answers) ≡ true → is_some (answer_from db (answers ++ more)) ≡ true) → is_some (cond b (Some p.1) (answer_from db answers)) ≡ true → is_some (cond b (Some p.1) (answer_from db (answers ++ more))) ≡ true
     go true rest d = refl
     go false rest d = rest d
 
-pub heard_last : (answers : Answers) (new db : ℕ) (answer : Answer) → new ≡ db → is_some (answer_from db (answers ++ (new, answer) ∷ [])) ≡ true
-heard_last [] new db answer e = ap (λ (b : Bool). is_some (cond b (Some answer) None)) (eq-eqb new db e)
-heard_last (p ∷ answers) new db answer e = go (p.0 == db) (heard_last answers new db answer e)
+pub last_answer : (answers : Answers) (new db : ℕ) (answer : Answer) → new ≡ db → is_some (answer_from db (answers ++ (new, answer) ∷ [])) ≡ true
+last_answer [] new db answer e = ap (λ (b : Bool). is_some (cond b (Some answer) None)) (eq-eqb new db e)
+last_answer (p ∷ answers) new db answer e = go (p.0 == db) (last_answer answers new db answer e)
   where
     go : (b : Bool) → is_some (answer_from db (answers ++ (new, answer) ∷ [])) ≡ true → is_some (cond b (Some p.1) (answer_from db (answers ++ (new, answer) ∷ []))) ≡ true
     go true rest = refl
     go false rest = rest
 
--- a request keeps what it has heard, and is undecided only where it was
-pub record Hears (r s : Request) : Type 0 where
+-- a request keeps its answers, and is undecided only where it was
+pub record KeepsAnswers (r s : Request) : Type 0 where
   pub undecided : is_undecided s ≡ true → is_undecided r ≡ true
-  pub heard : (db : ℕ) → has_heard db r ≡ true → has_heard db s ≡ true
+  pub answers : (db : ℕ) → has_answer db r ≡ true → has_answer db s ≡ true
 
-hears_own : (r : Request) → Hears r r
-hears_own r = record { undecided = λ u. u; heard = λ db h. h }
+own_answers : (r : Request) → KeepsAnswers r r
+own_answers r = record { undecided = λ u. u; answers = λ db h. h }
 
-hears_later : (a b c : Request) → Hears a b → Hears b c → Hears a c
-hears_later a b c f g = record { undecided = λ u. f.undecided (g.undecided u); heard = λ db h. g.heard db (f.heard db h) }
+later_answers : (a b c : Request) → KeepsAnswers a b → KeepsAnswers b c → KeepsAnswers a c
+later_answers a b c f g = record { undecided = λ u. f.undecided (g.undecided u); answers = λ db h. g.answers db (f.answers db h) }
 
 cancelled_isn't : (r : Request) → is_undecided (cancelled r) ≡ true → ⊥
 cancelled_isn't r u = true≢false (sym u)
@@ -136,52 +136,52 @@ replied_isn't moment r u = true≢false (sym (and_second (not r.is_cancelled) fa
 timed_out_isn't : (moment : ℕ) (r : Request) → is_undecided (timed_out moment r) ≡ true → ⊥
 timed_out_isn't moment r u = true≢false (sym (and_second (is_pending r) false u))
 
-pub cancelled_hears : (r : Request) → Hears r (cancelled r)
-cancelled_hears r = record { undecided = λ u. absurd (cancelled_isn't r u); heard = λ db h. h }
+pub cancelled_keeps_answers : (r : Request) → KeepsAnswers r (cancelled r)
+cancelled_keeps_answers r = record { undecided = λ u. absurd (cancelled_isn't r u); answers = λ db h. h }
 
-pub cancelled_of_hears : (conn : ℕ) (r : Request) → Hears r (as_cancelled_of conn r)
-cancelled_of_hears conn r = by_test (Hears r) (is_of conn r) (cancelled r) r (λ e. cancelled_hears r) (λ e. hears_own r)
+pub cancelled_of_keeps_answers : (conn : ℕ) (r : Request) → KeepsAnswers r (as_cancelled_of conn r)
+cancelled_of_keeps_answers conn r = by_test (KeepsAnswers r) (is_of conn r) (cancelled r) r (λ e. cancelled_keeps_answers r) (λ e. own_answers r)
 
-pub text_hears : (text : Bytes) (r : Request) → Hears r (with_text text r)
-text_hears text r = record { undecided = λ u. u; heard = λ db h. h }
+pub text_keeps_answers : (text : Bytes) (r : Request) → KeepsAnswers r (with_text text r)
+text_keeps_answers text r = record { undecided = λ u. u; answers = λ db h. h }
 
-pub answer_hears : (db : ℕ) (answer : Answer) (r : Request) → Hears r (with_answer db answer r)
-answer_hears db answer r = record { undecided = λ u. u; heard = λ other h. heard_more r.answers ((db, answer) ∷ []) other h }
+pub answer_keeps_answers : (db : ℕ) (answer : Answer) (r : Request) → KeepsAnswers r (with_answer db answer r)
+answer_keeps_answers db answer r = record { undecided = λ u. u; answers = λ other h. answer_stays r.answers ((db, answer) ∷ []) other h }
 
-pub late_hears : (db : ℕ) (answer : Answer) (r : Request) → Hears r (with_late_answer db answer r)
-late_hears db answer r = by_test (Hears r) (is_some r.decided && not r.is_timed_out) r (with_answer db answer r) (λ e. hears_own r) (λ e. answer_hears db answer r)
+pub late_keeps_answers : (db : ℕ) (answer : Answer) (r : Request) → KeepsAnswers r (with_late_answer db answer r)
+late_keeps_answers db answer r = by_test (KeepsAnswers r) (is_some r.decided && not r.is_timed_out) r (with_answer db answer r) (λ e. own_answers r) (λ e. answer_keeps_answers db answer r)
 
-pub replied_hears : (settings : Settings) (moment : ℕ) (r : Request) → Hears r (replied_if_due settings moment r)
-replied_hears settings moment r = by_test (Hears r) (is_due settings moment r) (replied moment r) r
-    (λ e. record { undecided = λ u. absurd (replied_isn't moment r u); heard = λ db h. h })
-    (λ e. hears_own r)
+pub replied_keeps_answers : (settings : Settings) (moment : ℕ) (r : Request) → KeepsAnswers r (replied_if_due settings moment r)
+replied_keeps_answers settings moment r = by_test (KeepsAnswers r) (is_due settings moment r) (replied moment r) r
+    (λ e. record { undecided = λ u. absurd (replied_isn't moment r u); answers = λ db h. h })
+    (λ e. own_answers r)
 
-pub timed_out_hears : (settings : Settings) (moment : ℕ) (r : Request) → Hears r (timed_out_if_over settings moment r)
-timed_out_hears settings moment r = by_test (Hears r) (is_over_limit settings moment r) (timed_out moment r) r
-    (λ e. record { undecided = λ u. absurd (timed_out_isn't moment r u); heard = λ db h. h })
-    (λ e. hears_own r)
+pub timed_out_keeps_answers : (settings : Settings) (moment : ℕ) (r : Request) → KeepsAnswers r (timed_out_if_over settings moment r)
+timed_out_keeps_answers settings moment r = by_test (KeepsAnswers r) (is_over_limit settings moment r) (timed_out moment r) r
+    (λ e. record { undecided = λ u. absurd (timed_out_isn't moment r u); answers = λ db h. h })
+    (λ e. own_answers r)
 
 pub decided_isn't : (settings : Settings) (moment : ℕ) (r : Request) → is_undecided (with_decision settings moment r) ≡ true → ⊥
 decided_isn't settings moment r u =
-    true≢false (sym (and_second (is_pending r) false ((replied_hears settings moment (record r { decided = Some moment })).undecided u)))
+    true≢false (sym (and_second (is_pending r) false ((replied_keeps_answers settings moment (record r { decided = Some moment })).undecided u)))
 
-pub decision_hears : (settings : Settings) (moment : ℕ) (r : Request) → Hears r (with_decision settings moment r)
-decision_hears settings moment r = record {
+pub decision_keeps_answers : (settings : Settings) (moment : ℕ) (r : Request) → KeepsAnswers r (with_decision settings moment r)
+decision_keeps_answers settings moment r = record {
   undecided = λ u. absurd (decided_isn't settings moment r u);
-  heard = λ db h. (replied_hears settings moment (record r { decided = Some moment })).heard db h;
+  answers = λ db h. (replied_keeps_answers settings moment (record r { decided = Some moment })).answers db h;
 }
 
-pub changed_hear : (f : Request → Request) → ((r : Request) → Hears r (f r)) → (rs : List Request) (n : ℕ) → RowsStand Hears rs (changed_nth f rs n)
-changed_hear f h rs n = changed_rows Hears hears_own hears_later f rs n (λ r is. h r)
+pub changed_keep_answers : (f : Request → Request) → ((r : Request) → KeepsAnswers r (f r)) → (rs : List Request) (n : ℕ) → RowsStand KeepsAnswers rs (changed_nth f rs n)
+changed_keep_answers f h rs n = changed_rows KeepsAnswers own_answers later_answers f rs n (λ r is. h r)
 
-pub mapped_hear : (f : Request → Request) → ((r : Request) → Hears r (f r)) → (rs : List Request) → RowsStand Hears rs (map f rs)
-mapped_hear f h rs = mapped_rows Hears hears_own hears_later f h rs
+pub mapped_keep_answers : (f : Request → Request) → ((r : Request) → KeepsAnswers r (f r)) → (rs : List Request) → RowsStand KeepsAnswers rs (map f rs)
+mapped_keep_answers f h rs = mapped_rows KeepsAnswers own_answers later_answers f h rs
 
-pub longer_hear : (rs ss : List Request) → RowsStand Hears rs (rs ++ ss)
-longer_hear rs ss = longer_rows Hears hears_own hears_later rs ss
+pub longer_keep_answers : (rs ss : List Request) → RowsStand KeepsAnswers rs (rs ++ ss)
+longer_keep_answers rs ss = longer_rows KeepsAnswers own_answers later_answers rs ss
 
-pub same_hear : (rs : List Request) → RowsStand Hears rs rs
-same_hear rs = same_rows Hears hears_own hears_later rs
+pub same_keep_answers : (rs : List Request) → RowsStand KeepsAnswers rs rs
+same_keep_answers rs = same_rows KeepsAnswers own_answers later_answers rs
 
 -- ---- answered queries
 
@@ -202,14 +202,14 @@ abbrev pub AllRepeat : List QueryRow → Type 0
 AllRepeat qs = (k m : ℕ) (a b : QueryRow) → nth qs k ≡ Some a → nth qs m ≡ Some b → k < m → b.request ≡ a.request → b.question.db ≡ a.question.db →
     (is_lost_in qs k ≡ true) × (b.question ≡ a.question)
 
-pub has_requests_kept : (rs ss : List Request) (qs ts : List QueryRow) → RowsStand Hears rs ss → RowsStand KeepsAnswer qs ts → WereThere qs ts → HasRequests rs qs → HasRequests ss ts
+pub has_requests_kept : (rs ss : List Request) (qs ts : List QueryRow) → RowsStand KeepsAnswers rs ss → RowsStand KeepsAnswer qs ts → WereThere qs ts → HasRequests rs qs → HasRequests ss ts
 has_requests_kept rs ss qs ts requests queries were p k b e = go (were k b e)
   where
     go : (a : QueryRow) × (nth qs k ≡ Some a) → (s : Request) × (nth ss b.request ≡ Some s)
     go (a, is) =
         let row : (c : QueryRow) × (nth ts k ≡ Some c) × KeepsAnswer a c = queries k a is in
         let request : (r : Request) × (nth rs a.request ≡ Some r) = p k a is in
-        let later : (s : Request) × (nth ss a.request ≡ Some s) × Hears request.0 s = requests a.request request.0 request.1 in (
+        let later : (s : Request) × (nth ss a.request ≡ Some s) × KeepsAnswers request.0 s = requests a.request request.0 request.1 in (
           later.0,
           ap (nth ss) (ap (λ (x : QueryRow). x.request) (same_Some b row.0 (sym e ∙ row.1)) ∙ row.2.request) ∙ later.1,
         )
@@ -237,27 +237,27 @@ module _ (settings : Settings) where
     pub continues : m ≡ Some a.request
     pub asks : question_in (request_stage settings r) ≡ Some a.question
 
-  -- an answered query was heard by its undecided request, or is lost; and then the same is asked again, or is to be
-  abbrev pub IsSettled : List QueryRow → Option ℕ → ℕ → QueryRow → Request → Type 0
-  IsSettled qs m k a r = (has_heard a.question.db r ≡ true) ⊎ ((is_lost_in qs k ≡ true) × (IsAskedAgain qs k a ⊎ StillAsks m r a))
+  -- the undecided request of an answered query has its answer; or the query is lost, and then the same is asked again, or is to be
+  abbrev pub IsAccounted : List QueryRow → Option ℕ → ℕ → QueryRow → Request → Type 0
+  IsAccounted qs m k a r = (has_answer a.question.db r ≡ true) ⊎ ((is_lost_in qs k ≡ true) × (IsAskedAgain qs k a ⊎ StillAsks m r a))
 
-  abbrev pub AllSettled : List Request → List QueryRow → Option ℕ → Type 0
-  AllSettled rs qs m = (k : ℕ) (a : QueryRow) (p : Answer × ℕ) (r : Request) → nth qs k ≡ Some a → a.answer ≡ Some p → nth rs a.request ≡ Some r → is_undecided r ≡ true → IsSettled qs m k a r
+  abbrev pub AllAccounted : List Request → List QueryRow → Option ℕ → Type 0
+  AllAccounted rs qs m = (k : ℕ) (a : QueryRow) (p : Answer × ℕ) (r : Request) → nth qs k ≡ Some a → a.answer ≡ Some p → nth rs a.request ≡ Some r → is_undecided r ≡ true → IsAccounted qs m k a r
 
   pub record AreRepeated (rs : List Request) (qs : List QueryRow) (m : Option ℕ) : Type 0 where
     pub requests : HasRequests rs qs
-    pub settled : AllSettled rs qs m
+    pub accounted : AllAccounted rs qs m
     pub repeats : AllRepeat qs
 
   -- what becomes of a query that its request still asks, where requests and queries change
   abbrev pub Continue : List Request → List Request → List QueryRow → List QueryRow → Option ℕ → Option ℕ → Type 0
   Continue rs ss qs ts m o = (k : ℕ) (a : QueryRow) (r s : Request) → nth qs k ≡ Some a → nth rs a.request ≡ Some r → nth ss a.request ≡ Some s → is_undecided s ≡ true → StillAsks m r a →
-      (has_heard a.question.db s ≡ true) ⊎ (IsAskedAgain ts k a ⊎ StillAsks o s a)
+      (has_answer a.question.db s ≡ true) ⊎ (IsAskedAgain ts k a ⊎ StillAsks o s a)
 
   pub none_continues : (rs ss : List Request) (qs ts : List QueryRow) (o : Option ℕ) → Continue rs ss qs ts None o
   none_continues rs ss qs ts o k a r s x y z u c = absurd (none-some a.request c.continues)
 
-  module _ (rs ss : List Request) (qs ts : List QueryRow) (m o : Option ℕ) (requests : RowsStand Hears rs ss) (queries : RowsStand KeepsAnswer qs ts) (further : Continue rs ss qs ts m o) where
+  module _ (rs ss : List Request) (qs ts : List QueryRow) (m o : Option ℕ) (requests : RowsStand KeepsAnswers rs ss) (queries : RowsStand KeepsAnswer qs ts) (further : Continue rs ss qs ts m o) where
     again_kept : (k : ℕ) (a b : QueryRow) → KeepsAnswer a b → IsAskedAgain qs k a → IsAskedAgain ts k b
     again_kept k a b s g =
         let row : (c : QueryRow) × (nth ts g.number ≡ Some c) × KeepsAnswer g.row c = queries g.number g.row g.is_there in
@@ -270,9 +270,9 @@ module _ (settings : Settings) where
           db = ap (λ (z : Question). z.db) row.2.question ∙ g.db ∙ ap (λ (z : Question). z.db) (sym s.question);
         }
 
-    -- a query that was settled stays so
-    pub settled_kept : HasRequests rs qs → AllSettled rs qs m → (k : ℕ) (a b : QueryRow) (p : Answer × ℕ) (s : Request) → nth qs k ≡ Some a → a.answer ≡ Some p → KeepsAnswer a b → nth ss b.request ≡ Some s → is_undecided s ≡ true → IsSettled ts o k b s
-    settled_kept has all k a b p s is told keep at u = go (has k a is)
+    -- a query that was accounted for stays so
+    pub accounted_kept : HasRequests rs qs → AllAccounted rs qs m → (k : ℕ) (a b : QueryRow) (p : Answer × ℕ) (s : Request) → nth qs k ≡ Some a → a.answer ≡ Some p → KeepsAnswer a b → nth ss b.request ≡ Some s → is_undecided s ≡ true → IsAccounted ts o k b s
+    accounted_kept has all k a b p s is told keep at u = go (has k a is)
       where
         same_db : a.question.db ≡ b.question.db
         same_db = ap (λ (z : Question). z.db) (sym keep.question)
@@ -280,16 +280,16 @@ module _ (settings : Settings) where
         now_at : nth ss a.request ≡ Some s
         now_at = ap (nth ss) (sym keep.request) ∙ at
 
-        go : (r : Request) × (nth rs a.request ≡ Some r) → IsSettled ts o k b s
+        go : (r : Request) × (nth rs a.request ≡ Some r) → IsAccounted ts o k b s
         go (r, was) =
-            let later : (t : Request) × (nth ss a.request ≡ Some t) × Hears r t = requests a.request r was in
-            by_hearing r was (subst (λ (x : Request). Hears r x) (same_Some later.0 s (sym later.1 ∙ now_at)) later.2)
+            let later : (t : Request) × (nth ss a.request ≡ Some t) × KeepsAnswers r t = requests a.request r was in
+            by_answers r was (subst (λ (x : Request). KeepsAnswers r x) (same_Some later.0 s (sym later.1 ∙ now_at)) later.2)
           where
-            by_hearing : (r : Request) → nth rs a.request ≡ Some r → Hears r s → IsSettled ts o k b s
-            by_hearing r was h = by_settled (all k a p r is told was (h.undecided u))
+            by_answers : (r : Request) → nth rs a.request ≡ Some r → KeepsAnswers r s → IsAccounted ts o k b s
+            by_answers r was h = by_account (all k a p r is told was (h.undecided u))
               where
-                still : (has_heard a.question.db s ≡ true) ⊎ (IsAskedAgain ts k a ⊎ StillAsks o s a) → is_lost_in ts k ≡ true → IsSettled ts o k b s
-                still (inl x) l = inl (subst (λ (d : ℕ). has_heard d s ≡ true) same_db x)
+                still : (has_answer a.question.db s ≡ true) ⊎ (IsAskedAgain ts k a ⊎ StillAsks o s a) → is_lost_in ts k ≡ true → IsAccounted ts o k b s
+                still (inl x) l = inl (subst (λ (d : ℕ). has_answer d s ≡ true) same_db x)
                 still (inr (inl g)) l = inr (
                   l,
                   inl (record {
@@ -303,23 +303,23 @@ module _ (settings : Settings) where
                 )
                 still (inr (inr c)) l = inr (l, inr (record { continues = c.continues ∙ ap (λ (n : ℕ). Some n) (sym keep.request); asks = c.asks ∙ ap (λ (q : Question). Some q) (sym keep.question) }))
 
-                by_settled : IsSettled qs m k a r → IsSettled ts o k b s
-                by_settled (inl x) = inl (subst (λ (d : ℕ). has_heard d s ≡ true) same_db (h.heard a.question.db x))
-                by_settled (inr (l, inl g)) = inr (lost_kept qs ts queries k a is l, inl (again_kept k a b keep g))
-                by_settled (inr (l, inr c)) = still (further k a r s is was now_at u c) (lost_kept qs ts queries k a is l)
+                by_account : IsAccounted qs m k a r → IsAccounted ts o k b s
+                by_account (inl x) = inl (subst (λ (d : ℕ). has_answer d s ≡ true) same_db (h.answers a.question.db x))
+                by_account (inr (l, inl g)) = inr (lost_kept qs ts queries k a is l, inl (again_kept k a b keep g))
+                by_account (inr (l, inr c)) = still (further k a r s is was now_at u c) (lost_kept qs ts queries k a is l)
 
-    pub all_settled_kept : WereTold qs ts → HasRequests rs qs → AllSettled rs qs m → AllSettled ss ts o
-    all_settled_kept told has all k b p s is t at u = go (told k b p is t)
+    pub all_accounted_kept : WereTold qs ts → HasRequests rs qs → AllAccounted rs qs m → AllAccounted ss ts o
+    all_accounted_kept told has all k b p s is t at u = go (told k b p is t)
       where
-        go : (a : QueryRow) × (nth qs k ≡ Some a) × (a.answer ≡ Some p) → IsSettled ts o k b s
+        go : (a : QueryRow) × (nth qs k ≡ Some a) × (a.answer ≡ Some p) → IsAccounted ts o k b s
         go (a, was, answered) =
             let row : (c : QueryRow) × (nth ts k ≡ Some c) × KeepsAnswer a c = queries k a was in
-            settled_kept has all k a b p s was answered (subst (λ (x : QueryRow). KeepsAnswer a x) (same_Some row.0 b (sym row.1 ∙ is)) row.2) at u
+            accounted_kept has all k a b p s was answered (subst (λ (x : QueryRow). KeepsAnswer a x) (same_Some row.0 b (sym row.1 ∙ is)) row.2) at u
 
     pub all_kept : WereThere qs ts → WereTold qs ts → AreRepeated rs qs m → AreRepeated ss ts o
     all_kept there told p = record {
       requests = has_requests_kept rs ss qs ts requests queries there p.requests;
-      settled = all_settled_kept told p.requests p.settled;
+      accounted = all_accounted_kept told p.requests p.accounted;
       repeats = repeats_kept qs ts queries there p.repeats;
     }
 

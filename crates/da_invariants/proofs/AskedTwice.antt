@@ -11,7 +11,7 @@ use Rattle.da_invariants.specs.RepeatLaws.{AskedAgainWhereLost, AskedTwiceAtMost
 use Rattle.da_play.specs.History.{tables_of}
 use Rattle.da_tables.proofs.Cases.{and_first, and_second}
 use Rattle.da_tables.specs.declared.queries.QueryRow.{QueryRow}
-use Rattle.da_invariants.proofs.Settled.{lost_row, one_is_lost}
+use Rattle.da_invariants.proofs.Accounted.{lost_row, one_is_lost}
 use Rattle.da_invariants.proofs.Repeats.{history_repeats}
 
 -- ---- the laws

@@ -129,8 +129,8 @@ module _ (settings : Settings) (moment : ℕ) (before : Tables) (entered : Input
     makes = λ conn id random body m p. made_distinct (new_request moment conn id random body) refl p;
     loses = λ query given a g is run lost u p. p;
     loses_late = λ query given a g is run lost u p. p;
-    answers = λ query given a g is run heard u p. changed_distinct (with_answer a.question.db _) before.requests a.request (answer_is_new query a _ is run) p;
-    lates = λ query given a g is run heard u p. changed_distinct (with_late_answer a.question.db _) before.requests a.request (late_is_new query a _ is run) p;
+    answers = λ query given a g is run counts u p. changed_distinct (with_answer a.question.db _) before.requests a.request (answer_is_new query a _ is run) p;
+    lates = λ query given a g is run counts u p. changed_distinct (with_late_answer a.question.db _) before.requests a.request (late_is_new query a _ is run) p;
   }
 
   -- ---- hits

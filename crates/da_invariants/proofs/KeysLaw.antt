@@ -169,8 +169,8 @@ module _ (settings : Settings) (moment : ℕ) (before : Tables) (entered : Input
     makes = λ conn id random body m p. record { cacheable = refl; keys = refl };
     loses = λ query given a g is run lost u p. record { cacheable = refl; keys = refl };
     loses_late = λ query given a g is run lost u p. record { cacheable = refl; keys = refl };
-    answers = λ query given a g is run heard u p. record { cacheable = refl; keys = refl };
-    lates = λ query given a g is run heard u p. record { cacheable = refl; keys = refl };
+    answers = λ query given a g is run counts u p. record { cacheable = refl; keys = refl };
+    lates = λ query given a g is run counts u p. record { cacheable = refl; keys = refl };
   }
 
 -- the answer to a running query is recorded with it
@@ -195,7 +195,7 @@ module _ (settings : Settings) (moment query : ℕ) (given : Answer) (before : T
       (subst (λ (b : Bool). IsRecorded (cond b (after_answer_for settings moment query a answer before) (continuing_none before)).tables.queries query a answer moment) (sym run)
       (by_test (λ (h : AfterInput). IsRecorded h.tables.queries query a answer moment) (is_lost before.queries query a answer) _ _
       (λ lost. by_test (λ (h : AfterInput). IsRecorded h.tables.queries query a answer moment) (passes_option is_undecided (nth before.requests a.request)) _ _ (λ e. recorded_row) (λ e. recorded_row))
-      (λ heard. by_test (λ (h : AfterInput). IsRecorded h.tables.queries query a answer moment) (passes_option is_undecided (nth before.requests a.request)) _ _ (λ e. recorded_row) (λ e. recorded_row))))
+      (λ counts. by_test (λ (h : AfterInput). IsRecorded h.tables.queries query a answer moment) (passes_option is_undecided (nth before.requests a.request)) _ _ (λ e. recorded_row) (λ e. recorded_row))))
 
 -- the answer that an input tells of a running query is recorded with it
 pub told_is_recorded : (settings : Settings) (moment query : ℕ) (given : Answer) (before : Tables) (a : QueryRow) → nth before.queries query ≡ Some a → is_running a ≡ true → (input : Input) → Tells input query given →

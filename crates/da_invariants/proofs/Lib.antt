@@ -1,3 +1,4 @@
+pub mod Accounted
 pub mod AskedAgain
 pub mod AskedTwice
 pub mod AsksNew
@@ -11,5 +12,4 @@ pub mod Names
 pub mod OpenQueries
 pub mod Repeats
 pub mod SameStage
-pub mod Settled
 pub mod Standing

@@ -150,8 +150,8 @@ module _ (settings : Settings) (moment : ℕ) (before : Tables) (entered : Input
     makes = λ conn id random body m p. p;
     loses = λ query given a g is run lost u p. p;
     loses_late = λ query given a g is run lost u p. p;
-    answers = λ query given a g is run heard u p. p;
-    lates = λ query given a g is run heard u p. p;
+    answers = λ query given a g is run counts u p. p;
+    lates = λ query given a g is run counts u p. p;
   }
 
   continued_apart : ContinuedParts settings moment before entered hits apart_now apart_after
@@ -295,8 +295,8 @@ module _ (settings : Settings) (moment : ℕ) (before : Tables) (entered : Input
     makes = λ conn id random body m p. made_ids conn id random body m p;
     loses = λ query given a g is run lost u p. p;
     loses_late = λ query given a g is run lost u p. p;
-    answers = λ query given a g is run heard u p. changed_ids (with_answer a.question.db _) (record { conn = λ r. refl; id = λ r. refl }) before.requests a.request p;
-    lates = λ query given a g is run heard u p. changed_ids (with_late_answer a.question.db _) (either_keeps (λ r. is_some r.decided && not r.is_timed_out) (λ r. r) (with_answer a.question.db _) kept_as_it_is (record { conn = λ r. refl; id = λ r. refl })) before.requests a.request p;
+    answers = λ query given a g is run counts u p. changed_ids (with_answer a.question.db _) (record { conn = λ r. refl; id = λ r. refl }) before.requests a.request p;
+    lates = λ query given a g is run counts u p. changed_ids (with_late_answer a.question.db _) (either_keeps (λ r. is_some r.decided && not r.is_timed_out) (λ r. r) (with_answer a.question.db _) kept_as_it_is (record { conn = λ r. refl; id = λ r. refl })) before.requests a.request p;
   }
 
   continued_ids : ContinuedParts settings moment before entered hits ids_now ids_after

@@ -297,11 +297,11 @@ module _ (settings : Settings) (moment : ℕ) (before : Tables) (entered : Input
       none = none_left query (recorded_answer a.question.kind given) a is run p.all;
     };
     loses_late = λ query given a g is run lost u p. quiet _ (lost_asked query (recorded_answer a.question.kind given) a is run p.all);
-    answers = λ query given a g is run heard u p. record {
+    answers = λ query given a g is run counts u p. record {
       all = answered_asked query (recorded_answer a.question.kind given) a is run p.all (with_answer a.question.db (recorded_answer a.question.kind given));
       none = none_left query (recorded_answer a.question.kind given) a is run p.all;
     };
-    lates = λ query given a g is run heard u p. quiet _ (answered_asked query (recorded_answer a.question.kind given) a is run p.all (with_late_answer a.question.db (recorded_answer a.question.kind given)));
+    lates = λ query given a g is run counts u p. quiet _ (answered_asked query (recorded_answer a.question.kind given) a is run p.all (with_late_answer a.question.db (recorded_answer a.question.kind given)));
   }
 
   hit_asked : (tables : Tables) (continued number : ℕ) (a : QueryRow) (answer : Answer) → AreAsked tables (Some continued) → AreAsked (hit_with settings continued number a answer tables) (Some continued)

@@ -29,7 +29,7 @@ use Rattle.da_tables.specs.Queries.{as_taken, first_waiting, is_running, used_ag
 use Rattle.da_tables.specs.Tables.{AfterInput, with_due_replied, with_end, with_timed_out}
 use Rattle.da_tables.specs.declared.queries.QueryRow.{QueryRow}
 use Rattle.da_tables.specs.declared.tables.Tables.{Tables}
-use Rattle.da_invariants.proofs.Settled.{AllSettled, AreRepeated, Continue, Hears, IsAskedAgain, IsSettled, KeepsAnswer, all_kept, all_settled_kept, answer_hears, cancelled_hears, cancelled_of_hears, changed_hear, changed_kept, changed_there, changed_told, decided_isn't, decision_hears, has_heard, has_requests_kept, heard_last, keeps_own, late_hears, longer_hear, longer_kept, lost_kept, mapped_hear, next_is_later, none_continues, one_is_lost, repeats_kept, replied_hears, same_hear, same_kept, settled_kept, text_hears, timed_out_hears}
+use Rattle.da_invariants.proofs.Accounted.{AllAccounted, AreRepeated, Continue, KeepsAnswers, IsAskedAgain, IsAccounted, KeepsAnswer, all_kept, all_accounted_kept, answer_keeps_answers, cancelled_keeps_answers, cancelled_of_keeps_answers, changed_keep_answers, changed_kept, changed_there, changed_told, decided_isn't, decision_keeps_answers, has_answer, has_requests_kept, last_answer, keeps_own, late_keeps_answers, longer_keep_answers, longer_kept, lost_kept, mapped_keep_answers, next_is_later, none_continues, one_is_lost, repeats_kept, replied_keeps_answers, same_keep_answers, same_kept, accounted_kept, text_keeps_answers, timed_out_keeps_answers}
 
 -- ---- the parts of an entry
 
@@ -38,14 +38,14 @@ Repeated settings tables m = AreRepeated settings tables.requests tables.queries
 
 module _ (settings : Settings) where
   -- where requests change and none continues
-  requests_kept : (rs ss : List Request) (qs : List QueryRow) (o : Option ℕ) → RowsStand Hears rs ss → AreRepeated settings rs qs None → AreRepeated settings ss qs o
+  requests_kept : (rs ss : List Request) (qs : List QueryRow) (o : Option ℕ) → RowsStand KeepsAnswers rs ss → AreRepeated settings rs qs None → AreRepeated settings ss qs o
   requests_kept rs ss qs o rows p = all_kept settings rs ss qs qs None o rows (same_kept qs) (none_continues settings rs ss qs qs o) (λ k b e. (b, e)) (λ k b a e t. (b, e, t)) p
 
   -- where queries change, but not their answers
   queries_kept : (f : QueryRow → QueryRow) → ((a : QueryRow) → KeepsAnswer a (f a)) → ((a : QueryRow) → (f a).answer ≡ a.answer) → (rs : List Request) (qs : List QueryRow) (n : ℕ) →
       AreRepeated settings rs qs None → AreRepeated settings rs (changed_nth f qs n) None
   queries_kept f h t rs qs n p =
-      all_kept settings rs rs qs (changed_nth f qs n) None None (same_hear rs) (changed_kept f qs n (λ a is. h a)) (none_continues settings rs rs qs (changed_nth f qs n) None) (changed_there f qs n) (changed_told f t qs n) p
+      all_kept settings rs rs qs (changed_nth f qs n) None None (same_keep_answers rs) (changed_kept f qs n (λ a is. h a)) (none_continues settings rs rs qs (changed_nth f qs n) None) (changed_there f qs n) (changed_told f t qs n) p
 
   taken_keeps : (moment : ℕ) (a : QueryRow) → KeepsAnswer a (as_taken moment a)
   taken_keeps moment a = record { request = refl; question = refl; answer = λ p e. e }
@@ -55,11 +55,11 @@ module _ (settings : Settings) where
 
   timed_kept : (moment : ℕ) (tables : Tables) → Repeated settings tables None → Repeated settings (with_timed_out settings moment tables) None
   unfolding with_timed_out
-  timed_kept moment tables p = requests_kept tables.requests (map (timed_out_if_over settings moment) tables.requests) tables.queries None (mapped_hear (timed_out_if_over settings moment) (timed_out_hears settings moment) tables.requests) p
+  timed_kept moment tables p = requests_kept tables.requests (map (timed_out_if_over settings moment) tables.requests) tables.queries None (mapped_keep_answers (timed_out_if_over settings moment) (timed_out_keeps_answers settings moment) tables.requests) p
 
   due_kept : (moment : ℕ) (tables : Tables) → Repeated settings tables None → Repeated settings (with_due_replied settings moment tables) None
   unfolding with_due_replied
-  due_kept moment tables p = requests_kept tables.requests (map (replied_if_due settings moment) tables.requests) tables.queries None (mapped_hear (replied_if_due settings moment) (replied_hears settings moment) tables.requests) p
+  due_kept moment tables p = requests_kept tables.requests (map (replied_if_due settings moment) tables.requests) tables.queries None (mapped_keep_answers (replied_if_due settings moment) (replied_keeps_answers settings moment) tables.requests) p
 
   before_kept : (moment : ℕ) (input : Input) (tables : Tables) → Repeated settings tables None → Repeated settings (before_input settings moment input tables) None
   before_kept moment input tables p =
@@ -73,7 +73,7 @@ module _ (settings : Settings) where
 module _ (settings : Settings) (moment : ℕ) (before : Tables) (entered : Input) (hits : List ℕ) (asked : AllAsked settings before.requests before.queries) where
   end_kept : (conn : ℕ) → Repeated settings before None → Repeated settings (with_end conn before) None
   unfolding with_end
-  end_kept conn p = requests_kept settings before.requests (map (as_cancelled_of conn) before.requests) before.queries None (mapped_hear (as_cancelled_of conn) (cancelled_of_hears conn) before.requests) p
+  end_kept conn p = requests_kept settings before.requests (map (as_cancelled_of conn) before.requests) before.queries None (mapped_keep_answers (as_cancelled_of conn) (cancelled_of_keeps_answers conn) before.requests) p
 
   -- a query is answered
   module _ (query : ℕ) (answer : Answer) (a : QueryRow) (is : nth before.queries query ≡ Some a) (run : is_running a ≡ true) where
@@ -99,23 +99,23 @@ module _ (settings : Settings) (moment : ℕ) (before : Tables) (entered : Input
     row_is : nth now query ≡ Some (answered a)
     row_is = nth-changed answered before.queries query ∙ ap (option_map answered) is
 
-    -- the other queries stay settled, and of this one it is told what becomes of it
-    answer_kept : (ss : List Request) (o : Option ℕ) → RowsStand Hears before.requests ss →
-        ((r s : Request) → nth before.requests a.request ≡ Some r → nth ss a.request ≡ Some s → is_undecided s ≡ true → IsSettled settings now o query (answered a) s) →
+    -- the other queries stay accounted for, and of this one it is told what becomes of it
+    answer_kept : (ss : List Request) (o : Option ℕ) → RowsStand KeepsAnswers before.requests ss →
+        ((r s : Request) → nth before.requests a.request ≡ Some r → nth ss a.request ≡ Some s → is_undecided s ≡ true → IsAccounted settings now o query (answered a) s) →
         Repeated settings before None → AreRepeated settings ss now o
     answer_kept ss o requests own p = record {
       requests = has_requests_kept before.requests ss before.queries now requests rows (changed_there answered before.queries query) p.requests;
-      settled = all_settled;
+      accounted = all_accounted;
       repeats = repeats_kept before.queries now rows (changed_there answered before.queries query) p.repeats;
     }
       where
-        all_settled : AllSettled settings ss now o
-        all_settled k b x s at told there u = go (of_changed answered before.queries query k b at)
+        all_accounted : AllAccounted settings ss now o
+        all_accounted k b x s at told there u = go (of_changed answered before.queries query k b at)
           where
-            go : ((k ≡ query) × (c : QueryRow) × (nth before.queries query ≡ Some c) × (b ≡ answered c)) ⊎ ((k ≡ query → ⊥) × (nth before.queries k ≡ Some b)) → IsSettled settings now o k b s
+            go : ((k ≡ query) × (c : QueryRow) × (nth before.queries query ≡ Some c) × (b ≡ answered c)) ⊎ ((k ≡ query → ⊥) × (nth before.queries k ≡ Some b)) → IsAccounted settings now o k b s
             go (inr (d, was)) =
-                settled_kept settings before.requests ss before.queries now None o requests rows (none_continues settings before.requests ss before.queries now o) p.requests p.settled k b b x s was told (keeps_own b) there u
-            go (inl (d, c, was, w)) = subst (λ (j : ℕ). IsSettled settings now o j b s) (sym d) (subst (λ (z : QueryRow). IsSettled settings now o query z s) (sym b_is) here)
+                accounted_kept settings before.requests ss before.queries now None o requests rows (none_continues settings before.requests ss before.queries now o) p.requests p.accounted k b b x s was told (keeps_own b) there u
+            go (inl (d, c, was, w)) = subst (λ (j : ℕ). IsAccounted settings now o j b s) (sym d) (subst (λ (z : QueryRow). IsAccounted settings now o query z s) (sym b_is) here)
               where
                 b_is : b ≡ answered a
                 b_is = w ∙ ap answered (same_Some c a (sym was ∙ is))
@@ -123,11 +123,11 @@ module _ (settings : Settings) (moment : ℕ) (before : Tables) (entered : Input
                 there_a : nth ss a.request ≡ Some s
                 there_a = ap (λ (z : QueryRow). nth ss z.request) (sym b_is) ∙ there
 
-                here : IsSettled settings now o query (answered a) s
+                here : IsAccounted settings now o query (answered a) s
                 here = let r : (r : Request) × (nth before.requests a.request ≡ Some r) = p.requests query a is in own r.0 s r.1 there_a u
 
     -- a query that is lost, and whose request continues, is still what that asks
-    lost_settled : is_lost before.queries query a answer ≡ true → (r s : Request) → nth before.requests a.request ≡ Some r → nth before.requests a.request ≡ Some s → is_undecided s ≡ true → IsSettled settings now (Some a.request) query (answered a) s
+    lost_settled : is_lost before.queries query a answer ≡ true → (r s : Request) → nth before.requests a.request ≡ Some r → nth before.requests a.request ≡ Some s → is_undecided s ≡ true → IsAccounted settings now (Some a.request) query (answered a) s
     lost_settled lost r s was at u = inr (
       lost_once_told answered (λ b. record { request = refl; question = refl }) before.queries query a (answer, moment) is refl ∙ lost,
       inr (record { continues = refl; asks = subst (λ (x : Request). question_in (request_stage settings x) ≡ Some a.question) (same_Some row.request s (sym row.is_there ∙ at)) row.asks }),
@@ -136,15 +136,15 @@ module _ (settings : Settings) (moment : ℕ) (before : Tables) (entered : Input
         row : IsAsked settings before.requests before.queries query a
         row = asked query a is unanswered
 
-    -- one that isn't lost is heard
-    heard_settled : (o : Option ℕ) (r s : Request) → nth before.requests a.request ≡ Some r → nth (changed_nth (with_answer a.question.db answer) before.requests a.request) a.request ≡ Some s → is_undecided s ≡ true → IsSettled settings now o query (answered a) s
-    heard_settled o r s was at u = inl (subst (λ (x : Request). has_heard a.question.db x ≡ true)
+    -- the request has the answer of one that isn't lost
+    heard_settled : (o : Option ℕ) (r s : Request) → nth before.requests a.request ≡ Some r → nth (changed_nth (with_answer a.question.db answer) before.requests a.request) a.request ≡ Some s → is_undecided s ≡ true → IsAccounted settings now o query (answered a) s
+    heard_settled o r s was at u = inl (subst (λ (x : Request). has_answer a.question.db x ≡ true)
         (same_Some (with_answer a.question.db answer r) s (sym (ap (option_map (with_answer a.question.db answer)) was) ∙ sym (nth-changed (with_answer a.question.db answer) before.requests a.request) ∙ at))
-        (heard_last r.answers a.question.db a.question.db answer refl))
+        (last_answer r.answers a.question.db a.question.db answer refl))
 
     -- who is decided, cancelled or timed out needs no answer
-    late_settled : (f : Request → Request) → ((r : Request) → Hears r (f r)) → (o : Option ℕ) → passes_option is_undecided (nth before.requests a.request) ≡ false → (r s : Request) → nth before.requests a.request ≡ Some r →
-        nth (changed_nth f before.requests a.request) a.request ≡ Some s → is_undecided s ≡ true → IsSettled settings now o query (answered a) s
+    late_settled : (f : Request → Request) → ((r : Request) → KeepsAnswers r (f r)) → (o : Option ℕ) → passes_option is_undecided (nth before.requests a.request) ≡ false → (r s : Request) → nth before.requests a.request ≡ Some r →
+        nth (changed_nth f before.requests a.request) a.request ≡ Some s → is_undecided s ≡ true → IsAccounted settings now o query (answered a) s
     late_settled f h o quiet r s was at u = absurd (true≢false (sym before_u ∙ sym (ap (passes_option is_undecided) was) ∙ quiet))
       where
         s_is : f r ≡ s
@@ -158,22 +158,22 @@ module _ (settings : Settings) (moment : ℕ) (before : Tables) (entered : Input
     opens = λ kind random l p. p;
     tells = λ conn change h told p. p;
     ends = λ conn e p. end_kept conn p;
-    cancels = λ n e p. requests_kept settings before.requests _ before.queries None (changed_hear cancelled cancelled_hears before.requests n) p;
-    texts = λ conn id random text m r is w p. requests_kept settings before.requests _ before.queries _ (changed_hear (with_text text) (text_hears text) before.requests _) p;
-    makes = λ conn id random body m p. requests_kept settings before.requests _ before.queries _ (longer_hear before.requests (new_request moment conn id random body ∷ [])) p;
+    cancels = λ n e p. requests_kept settings before.requests _ before.queries None (changed_keep_answers cancelled cancelled_keeps_answers before.requests n) p;
+    texts = λ conn id random text m r is w p. requests_kept settings before.requests _ before.queries _ (changed_keep_answers (with_text text) (text_keeps_answers text) before.requests _) p;
+    makes = λ conn id random body m p. requests_kept settings before.requests _ before.queries _ (longer_keep_answers before.requests (new_request moment conn id random body ∷ [])) p;
     loses = λ query given a g is run lost u p.
-        answer_kept query (recorded_answer a.question.kind given) a is run before.requests (Some a.request) (same_hear before.requests) (lost_settled query (recorded_answer a.question.kind given) a is run lost) p;
+        answer_kept query (recorded_answer a.question.kind given) a is run before.requests (Some a.request) (same_keep_answers before.requests) (lost_settled query (recorded_answer a.question.kind given) a is run lost) p;
     loses_late = λ query given a g is run lost u p.
-        answer_kept query (recorded_answer a.question.kind given) a is run before.requests None (same_hear before.requests)
+        answer_kept query (recorded_answer a.question.kind given) a is run before.requests None (same_keep_answers before.requests)
         (λ r s was at v. absurd (true≢false (sym v ∙ sym (ap (passes_option is_undecided) at) ∙ u))) p;
-    answers = λ query given a g is run heard u p.
+    answers = λ query given a g is run counts u p.
         answer_kept query (recorded_answer a.question.kind given) a is run (changed_nth (with_answer a.question.db (recorded_answer a.question.kind given)) before.requests a.request) (Some a.request)
-        (changed_hear (with_answer a.question.db (recorded_answer a.question.kind given)) (answer_hears a.question.db (recorded_answer a.question.kind given)) before.requests a.request)
+        (changed_keep_answers (with_answer a.question.db (recorded_answer a.question.kind given)) (answer_keeps_answers a.question.db (recorded_answer a.question.kind given)) before.requests a.request)
         (heard_settled query (recorded_answer a.question.kind given) a is run (Some a.request)) p;
-    lates = λ query given a g is run heard u p.
+    lates = λ query given a g is run counts u p.
         answer_kept query (recorded_answer a.question.kind given) a is run (changed_nth (with_late_answer a.question.db (recorded_answer a.question.kind given)) before.requests a.request) None
-        (changed_hear (with_late_answer a.question.db (recorded_answer a.question.kind given)) (late_hears a.question.db (recorded_answer a.question.kind given)) before.requests a.request)
-        (late_settled query (recorded_answer a.question.kind given) a is run (with_late_answer a.question.db (recorded_answer a.question.kind given)) (late_hears a.question.db (recorded_answer a.question.kind given)) None u) p;
+        (changed_keep_answers (with_late_answer a.question.db (recorded_answer a.question.kind given)) (late_keeps_answers a.question.db (recorded_answer a.question.kind given)) before.requests a.request)
+        (late_settled query (recorded_answer a.question.kind given) a is run (with_late_answer a.question.db (recorded_answer a.question.kind given)) (late_keeps_answers a.question.db (recorded_answer a.question.kind given)) None u) p;
   }
 
   -- ---- hits, and what follows
@@ -209,25 +209,25 @@ module _ (settings : Settings) (moment : ℕ) (before : Tables) (entered : Input
           s_is = same_Some (grown r) s (sym (ap (option_map grown) (ap (nth tables.requests) number_is ∙ was)) ∙ sym (nth-changed grown tables.requests continued) ∙ ap (nth (changed_nth grown tables.requests continued)) number_is ∙ is_now)
 
           go : (question : Question) × (question_in (request_stage settings q.distinct.continued.request) ≡ Some question) × IsUsable settings moment origin q.distinct.continued.request question number
-              × AreHits settings moment origin (with_hit origin question number q.distinct.continued.request) rest → has_heard b.question.db s ≡ true
+              × AreHits settings moment origin (with_hit origin question number q.distinct.continued.request) rest → has_answer b.question.db s ≡ true
           go (question, asks, usable, more) =
               let found : (question.db ≡ a.question.db) × (answer_of origin number ≡ Some p.0) =
               hit_is_asked settings moment before entered hits asked origin hs same tables number a p is e q.distinct.tables q.distinct.continued.request question usable in
               let same_question : question ≡ b.question = same_Some question b.question (sym asks ∙ ap (λ (x : Request). question_in (request_stage settings x)) r_is ∙ c.asks) in
-              subst (λ (x : Request). has_heard b.question.db x ≡ true) s_is
-              (heard_last r.answers a.question.db b.question.db p.0 (sym found.0 ∙ ap (λ (x : Question). x.db) same_question))
+              subst (λ (x : Request). has_answer b.question.db x ≡ true) s_is
+              (last_answer r.answers a.question.db b.question.db p.0 (sym found.0 ∙ ap (λ (x : Question). x.db) same_question))
 
       hit_repeats : Repeated settings (hit_with settings continued number a p.0 tables) (Some continued)
       hit_repeats =
           all_kept settings tables.requests (changed_nth grown tables.requests continued) tables.queries (changed_nth used tables.queries number) (Some continued) (Some continued)
-          (changed_hear grown (answer_hears a.question.db p.0) tables.requests continued) (changed_kept used tables.queries number (λ b at. used_keeps settings comparison b)) hit_answers
+          (changed_keep_answers grown (answer_keeps_answers a.question.db p.0) tables.requests continued) (changed_kept used tables.queries number (λ b at. used_keeps settings comparison b)) hit_answers
           (changed_there used tables.queries number) (changed_told used (λ b. refl) tables.queries number) q.repeated
 
     -- where the request asks nothing, no query is to be asked again
     nothing_asked : (tables : Tables) (n : ℕ) (r : Request) (stage : Stage) → nth tables.requests n ≡ Some r → request_stage settings r ≡ stage → question_in stage ≡ None →
         Repeated settings tables (Some n) → Repeated settings tables None
     nothing_asked tables n r stage is e none p =
-        all_kept settings tables.requests tables.requests tables.queries tables.queries (Some n) None (same_hear tables.requests) (same_kept tables.queries) further (λ k b x. (b, x)) (λ k b a x t. (b, x, t)) p
+        all_kept settings tables.requests tables.requests tables.queries tables.queries (Some n) None (same_keep_answers tables.requests) (same_kept tables.queries) further (λ k b x. (b, x)) (λ k b a x t. (b, x, t)) p
       where
         further : Continue settings tables.requests tables.requests tables.queries tables.queries (Some n) None
         further k b s t at was is_now u c = absurd (none-some b.question (sym none ∙ sym (ap question_in e)
@@ -236,7 +236,7 @@ module _ (settings : Settings) (moment : ℕ) (before : Tables) (entered : Input
     decided_repeats : (tables : Tables) (n : ℕ) → Repeated settings tables (Some n) → AreRepeated settings (changed_nth (with_decision settings moment) tables.requests n) tables.queries None
     decided_repeats tables n p =
         all_kept settings tables.requests (changed_nth (with_decision settings moment) tables.requests n) tables.queries tables.queries (Some n) None
-        (changed_hear (with_decision settings moment) (decision_hears settings moment) tables.requests n) (same_kept tables.queries) further (λ k b x. (b, x)) (λ k b a x t. (b, x, t)) p
+        (changed_keep_answers (with_decision settings moment) (decision_keeps_answers settings moment) tables.requests n) (same_kept tables.queries) further (λ k b x. (b, x)) (λ k b a x t. (b, x, t)) p
       where
         further : Continue settings tables.requests (changed_nth (with_decision settings moment) tables.requests n) tables.queries tables.queries (Some n) None
         further k b r s at was is_now u c =
@@ -249,7 +249,7 @@ module _ (settings : Settings) (moment : ℕ) (before : Tables) (entered : Input
     -- a new query asks the same as each query of its request to its database before it, which is lost
     module _ (tables : Tables) (n : ℕ) (r : Request) (new : QueryRow) (is : nth tables.requests n ≡ Some r) (u : is_undecided r ≡ true) (of_it : new.request ≡ n) (asks : question_in (request_stage settings r) ≡ Some new.question) (untold : new.answer ≡ None)
         (none : NoneOf tables.queries (Some n)) (p : Repeated settings tables (Some n)) where
-      not_heard : (db : ℕ) → new.question.db ≡ db → has_heard db r ≡ true → ⊥
+      not_heard : (db : ℕ) → new.question.db ≡ db → has_answer db r ≡ true → ⊥
       not_heard db d h = true≢false (sym h ∙ ap is_some (subst (λ (x : ℕ). answer_from x r.answers ≡ None) d (asks_new settings r new.question asks)))
 
       there : (a : QueryRow) → new.request ≡ a.request → nth tables.requests a.request ≡ Some r
@@ -262,30 +262,30 @@ module _ (settings : Settings) (moment : ℕ) (before : Tables) (entered : Input
           go None e = absurd (none k a at e (sym d ∙ of_it))
           go (Some x) e = (x, e)
 
-      -- the query that was asked again isn't lost too, and so was heard
+      -- the query that was asked again isn't lost too, and so the request has its answer
       not_again : (k : ℕ) (a : QueryRow) → nth tables.queries k ≡ Some a → new.request ≡ a.request → new.question.db ≡ a.question.db → is_lost_in tables.queries k ≡ true → IsAskedAgain tables.queries k a → ⊥
       not_again k a at d e l g = go (told g.number g.row g.is_there (d ∙ sym g.request))
         where
-          by_settled : IsSettled settings tables.queries (Some n) g.number g.row r → ⊥
-          by_settled (inl h) = not_heard g.row.question.db (e ∙ sym g.db) h
-          by_settled (inr (lost, x)) =
+          by_account : IsAccounted settings tables.queries (Some n) g.number g.row r → ⊥
+          by_account (inl h) = not_heard g.row.question.db (e ∙ sym g.db) h
+          by_account (inr (lost, x)) =
               let equal : k ≡ g.number = one_is_lost tables.queries k g.number a g.row at g.is_there g.request g.db l lost in
               let later : k < g.number = g.is_later in
               let bad : ⊥ = omega (arith, equal, later) in bad
 
           go : (x : Answer × ℕ) × (g.row.answer ≡ Some x) → ⊥
-          go (x, t) = by_settled (p.settled g.number g.row x r g.is_there t (there g.row (d ∙ sym g.request)) u)
+          go (x, t) = by_account (p.accounted g.number g.row x r g.is_there t (there g.row (d ∙ sym g.request)) u)
 
       repeats_new : (k : ℕ) (a : QueryRow) → nth tables.queries k ≡ Some a → new.request ≡ a.request → new.question.db ≡ a.question.db → (is_lost_in tables.queries k ≡ true) × (new.question ≡ a.question)
       repeats_new k a at d e = go (told k a at d)
         where
-          by_settled : IsSettled settings tables.queries (Some n) k a r → (is_lost_in tables.queries k ≡ true) × (new.question ≡ a.question)
-          by_settled (inl h) = absurd (not_heard a.question.db e h)
-          by_settled (inr (l, inl g)) = absurd (not_again k a at d e l g)
-          by_settled (inr (l, inr c)) = (l, same_Some new.question a.question (sym asks ∙ c.asks))
+          by_account : IsAccounted settings tables.queries (Some n) k a r → (is_lost_in tables.queries k ≡ true) × (new.question ≡ a.question)
+          by_account (inl h) = absurd (not_heard a.question.db e h)
+          by_account (inr (l, inl g)) = absurd (not_again k a at d e l g)
+          by_account (inr (l, inr c)) = (l, same_Some new.question a.question (sym asks ∙ c.asks))
 
           go : (x : Answer × ℕ) × (a.answer ≡ Some x) → (is_lost_in tables.queries k ≡ true) × (new.question ≡ a.question)
-          go (x, t) = by_settled (p.settled k a x r at t (there a d) u)
+          go (x, t) = by_account (p.accounted k a x r at t (there a d) u)
 
       abbrev longer : List QueryRow
       longer = tables.queries ++ new ∷ []
@@ -307,8 +307,8 @@ module _ (settings : Settings) (moment : ℕ) (before : Tables) (entered : Input
       asks_repeats : AreRepeated settings tables.requests longer None
       asks_repeats = record {
         requests = λ k b e. has_request k b (of_appended tables.queries new b k e);
-        settled = all_settled_kept settings tables.requests tables.requests tables.queries longer (Some n) None (same_hear tables.requests) (longer_kept tables.queries (new ∷ [])) asked_again
-            (λ k b x e t. was_told k b x t (of_appended tables.queries new b k e)) p.requests p.settled;
+        accounted = all_accounted_kept settings tables.requests tables.requests tables.queries longer (Some n) None (same_keep_answers tables.requests) (longer_kept tables.queries (new ∷ [])) asked_again
+            (λ k b x e t. was_told k b x t (of_appended tables.queries new b k e)) p.requests p.accounted;
         repeats = λ k m a b x y l d e. both k m a b l d e (of_appended tables.queries new a k x) (of_appended tables.queries new b m y);
       }
         where
@@ -373,7 +373,7 @@ entry_repeats settings tables e asked hits d p =
 start_repeats : (settings : Settings) → AreRepeated settings [] [] None
 start_repeats settings = record {
   requests = λ k a e. absurd (nowhere k a e);
-  settled = λ k a p r e t x u. absurd (nowhere k a e);
+  accounted = λ k a p r e t x u. absurd (nowhere k a e);
   repeats = λ k m a b x y l r d. absurd (nowhere k a x);
 }
 

@@ -132,8 +132,8 @@ module _ (c : ℕ) (settings : Settings) (moment : ℕ) (before : Tables) (enter
     makes = λ conn id random body m p. uses-made c before.requests (new_request moment conn id random body) (made_unused settings moment before entered conn id random body m c) p;
     loses = λ query given a g is run lost u p. p;
     loses_late = λ query given a g is run lost u p. p;
-    answers = λ query given a g is run heard u p. few_changed (with_answer a.question.db _) (λ d r. refl) before.requests a.request p;
-    lates = λ query given a g is run heard u p. few_changed (with_late_answer a.question.db _) (late_grants a.question.db _) before.requests a.request p;
+    answers = λ query given a g is run counts u p. few_changed (with_answer a.question.db _) (λ d r. refl) before.requests a.request p;
+    lates = λ query given a g is run counts u p. few_changed (with_late_answer a.question.db _) (late_grants a.question.db _) before.requests a.request p;
   }
 
   continued_few : ContinuedParts settings moment before entered hits few_now few_after

@@ -152,14 +152,14 @@ module _ (settings : Settings) (g : List Entry) (moment : ℕ) (input : Input) w
   abbrev there : AfterInput
   there = after_input settings moment input before
 
-  abbrev mover : Option Request
-  mover = option_and_then (nth there.tables.requests) there.continued
+  abbrev continuing : Option Request
+  continuing = option_and_then (nth there.tables.requests) there.continued
 
-  own_hits : (r : Request) → mover ≡ Some r → hits settings g moment input ≡ hits_from (database_count settings) settings moment (tables_of settings g) r
+  own_hits : (r : Request) → continuing ≡ Some r → hits settings g moment input ≡ hits_from (database_count settings) settings moment (tables_of settings g) r
   unfolding hits
   own_hits r e = ap (λ (o : Option Request). option_or_else o [] (hits_from (database_count settings) settings moment (tables_of settings g))) e
 
-  follows_first : (o : Option Request) → mover ≡ o → option_and_then (compares_from (database_count settings) settings moment (tables_of settings g)) o
+  follows_first : (o : Option Request) → continuing ≡ o → option_and_then (compares_from (database_count settings) settings moment (tables_of settings g)) o
       ≡ nth (option_or_else o [] (λ r. uses_in_turn settings moment (tables_of settings g) r (hits settings g moment input))) 1
   follows_first None e = refl
   follows_first (Some r) e = first_in_turn settings moment (tables_of settings g) (database_count settings) r (enough settings r.answers r.body)
@@ -169,8 +169,8 @@ module _ (settings : Settings) (g : List Entry) (moment : ℕ) (input : Input) w
   unfolding entry_compares
   entry_first =
       ap (λ (o : Option Compared). first_of_two o (compares_after settings moment (tables_of settings g) there)) (recorded_first settings before input)
-      ∙ ap (first_of_two (nth (recorded_uses settings before input) 1)) (follows_first mover refl)
-      ∙ first_of_lists (recorded_uses settings before input) (option_or_else mover [] (λ r. uses_in_turn settings moment (tables_of settings g) r (hits settings g moment input)))
+      ∙ ap (first_of_two (nth (recorded_uses settings before input) 1)) (follows_first continuing refl)
+      ∙ first_of_lists (recorded_uses settings before input) (option_or_else continuing [] (λ r. uses_in_turn settings moment (tables_of settings g) r (hits settings g moment input)))
 
 pub hints_are_the_first : HintsAreTheFirst
 unfolding hint

@@ -193,8 +193,8 @@ module _ (settings : Settings) where
       makes = λ conn id random body m p. (made_noted (new_request moment conn id random body) p.0, marks.makes conn id random body m p.1);
       loses = λ query given a g is run lost u p. (weaker_but a.request before.requests (all_of_none before.requests p.0), p.1);
       loses_late = λ query given a g is run lost u p. (p.0, p.1);
-      answers = λ query given a g is run heard u p. (changed_but (with_answer a.question.db _) before.requests a.request (weaker_but a.request before.requests (all_of_none before.requests p.0)), marks.answers query given a g is run heard u p.1);
-      lates = λ query given a g is run heard u p. (late_all a.request a.question.db _ u p.1 p.0, marks.lates query given a g is run heard u p.1);
+      answers = λ query given a g is run counts u p. (changed_but (with_answer a.question.db _) before.requests a.request (weaker_but a.request before.requests (all_of_none before.requests p.0)), marks.answers query given a g is run counts u p.1);
+      lates = λ query given a g is run counts u p. (late_all a.request a.question.db _ u p.1 p.0, marks.lates query given a g is run counts u p.1);
     }
 
     pub continued_noted : ContinuedParts settings moment before entered hits noted_but all_noted

@@ -207,8 +207,8 @@ module _ (settings : Settings) (moment : ℕ) (before : Tables) (entered : Input
     makes = λ conn id random body m p. new_replies before.requests (new_request moment conn id random body) n refl;
     loses = λ query given a g is run lost u p. p;
     loses_late = λ query given a g is run lost u p. p;
-    answers = λ query given a g is run heard u p. changed_replies (with_answer a.question.db _) (λ r. refl) before.requests a.request n;
-    lates = λ query given a g is run heard u p. changed_replies (with_late_answer a.question.db _) (late_replies a.question.db _) before.requests a.request n;
+    answers = λ query given a g is run counts u p. changed_replies (with_answer a.question.db _) (λ r. refl) before.requests a.request n;
+    lates = λ query given a g is run counts u p. changed_replies (with_late_answer a.question.db _) (late_replies a.question.db _) before.requests a.request n;
   }
 
   -- the entry tells no reply of a request that stays undecided

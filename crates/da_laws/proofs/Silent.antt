@@ -137,8 +137,8 @@ module _ (settings : Settings) (moment : ℕ) (before : Tables) (entered : Input
     makes = λ conn id random body m p. made_open conn id random body m p;
     loses = λ query given a g is run lost u p. p;
     loses_late = λ query given a g is run lost u p. p;
-    answers = λ query given a g is run heard u p. changed_open before.connections (with_answer a.question.db _) (answer_keeps a.question.db _) before.requests a.request p;
-    lates = λ query given a g is run heard u p. changed_open before.connections (with_late_answer a.question.db _) (late_keeps a.question.db _) before.requests a.request p;
+    answers = λ query given a g is run counts u p. changed_open before.connections (with_answer a.question.db _) (answer_keeps a.question.db _) before.requests a.request p;
+    lates = λ query given a g is run counts u p. changed_open before.connections (with_late_answer a.question.db _) (late_keeps a.question.db _) before.requests a.request p;
   }
     where
       reported : (conn other : ℕ) (change : Connection → Connection) → ((c : Connection) → IsSameConnection c (change c)) → (c : Connection) → nth before.connections other ≡ Some c →
@@ -247,8 +247,8 @@ module _ (settings : Settings) (origin : Tables) (e : Entry) where
     makes = λ conn id random body m p. tt;
     loses = λ query given a g is run lost u p. tt;
     loses_late = λ query given a g is run lost u p. tt;
-    answers = λ query given a g is run heard u p. tt;
-    lates = λ query given a g is run heard u p. tt;
+    answers = λ query given a g is run counts u p. tt;
+    lates = λ query given a g is run counts u p. tt;
   }
 
   continued_it : ContinuedParts settings e.moment before e.input e.hits unit_now ContinuedOpen

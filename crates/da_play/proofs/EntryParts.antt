@@ -353,14 +353,14 @@ module _ (settings : Settings) (moment : ℕ) (before : Tables) (entered : Input
       (continuing_none (recorded settings moment before query a given))
       (λ e. record { fact = k.loses query given a g is run lost e p; continued = e })
       (λ e. quiet _ (k.loses_late query given a g is run lost e p)))
-      (λ heard. by_test IsSound (passes_option is_undecided (nth before.requests a.request))
+      (λ counts. by_test IsSound (passes_option is_undecided (nth before.requests a.request))
       (continuing a.request (with_request (with_answer a.question.db (recorded_answer a.question.kind given)) a.request (recorded settings moment before query a given)))
       (continuing_none (with_request (with_late_answer a.question.db (recorded_answer a.question.kind given)) a.request (recorded settings moment before query a given)))
       (λ e. record {
-        fact = k.answers query given a g is run heard e p;
+        fact = k.answers query given a g is run counts e p;
         continued = still_undecided (with_answer a.question.db (recorded_answer a.question.kind given)) (λ r. refl) before.requests a.request e;
       })
-      (λ e. quiet _ (k.lates query given a g is run heard e p)))
+      (λ e. quiet _ (k.lates query given a g is run counts e p)))
 
   sound_records : (query : ℕ) (given : Answer) → Tells entered query given → (o : Option QueryRow) → nth before.queries query ≡ o → P before None →
       IsSound (after_answer settings moment query given o before)

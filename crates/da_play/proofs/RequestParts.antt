@@ -113,9 +113,9 @@ module _ (settings : Settings) (moment : ℕ) (before : Tables) (entered : Input
     makes = λ conn id random body m p. each_appended P before.requests _ (k.make conn id random body m) p;
     loses = λ query given a g is run lost u p. p;
     loses_late = λ query given a g is run lost u p. p;
-    answers = λ query given a g is run heard u p. each_changed P (with_answer a.question.db _) before.requests a.request
+    answers = λ query given a g is run counts u p. each_changed P (with_answer a.question.db _) before.requests a.request
         (λ r at q. k.answer a.request a.question.db _ r (of_row true before.requests a.request r u at) q) p;
-    lates = λ query given a g is run heard u p. each_changed P (with_late_answer a.question.db _) before.requests a.request
+    lates = λ query given a g is run counts u p. each_changed P (with_late_answer a.question.db _) before.requests a.request
         (λ r at q. k.late a.request a.question.db _ r (of_row false before.requests a.request r u at) q) p;
   }
 

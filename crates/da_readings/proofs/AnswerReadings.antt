@@ -54,8 +54,8 @@ module _ (settings : Settings) (e : Entry) (origin : Tables) where
     makes = λ conn id random body m p. record { cacheable = p.cacheable; tables = stand.makes conn id random body m p.tables };
     loses = λ query given a g is run lost u p. record { cacheable = p.cacheable; tables = stand.loses query given a g is run lost u p.tables };
     loses_late = λ query given a g is run lost u p. record { cacheable = p.cacheable; tables = stand.loses_late query given a g is run lost u p.tables };
-    answers = λ query given a g is run heard u p. record { cacheable = p.cacheable; tables = stand.answers query given a g is run heard u p.tables };
-    lates = λ query given a g is run heard u p. record { cacheable = p.cacheable; tables = stand.lates query given a g is run heard u p.tables };
+    answers = λ query given a g is run counts u p. record { cacheable = p.cacheable; tables = stand.answers query given a g is run counts u p.tables };
+    lates = λ query given a g is run counts u p. record { cacheable = p.cacheable; tables = stand.lates query given a g is run counts u p.tables };
   }
 
   -- what comes before an answer is kept is the same for every input: for a Tick nothing is kept

@@ -134,8 +134,8 @@ module _ (settings : Settings) (e : Entry) (origin : Tables) where
     makes = λ conn id random body m p. p;
     loses = λ query given a g is run lost u p. tell_tested query given a g is run;
     loses_late = λ query given a g is run lost u p. tell_tested query given a g is run;
-    answers = λ query given a g is run heard u p. tell_tested query given a g is run;
-    lates = λ query given a g is run heard u p. tell_tested query given a g is run;
+    answers = λ query given a g is run counts u p. tell_tested query given a g is run;
+    lates = λ query given a g is run counts u p. tell_tested query given a g is run;
   }
 
   -- ---- hits

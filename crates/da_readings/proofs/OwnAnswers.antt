@@ -168,11 +168,11 @@ module _ (settings : Settings) (e : Entry) (origin : Tables) where
   tell_grew : (query : ℕ) (answer : Answer) (a : QueryRow) (f : Request → Request) (g : QueryRow → QueryRow) → told_query e.input ≡ Some query → nth before.queries query ≡ Some a → is_running a ≡ true →
       ((x : QueryRow) → SameQuery x (g x)) → ((m : ℕ) × ((g a).answer ≡ Some (answer, m))) → is_lost before.queries query a answer ≡ false → (r : Request) → nth before.requests a.request ≡ Some r → (f r).answers ≡ r.answers ++ (a.question.db, answer) ∷ [] →
       Grew (record before { requests = changed_nth f before.requests a.request; queries = changed_nth g before.queries query })
-  tell_grew query answer a f g reported is run keeps w heard r at more n =
+  tell_grew query answer a f g reported is run keeps w counts r at more n =
       answered_more f ((a.question.db, answer) ∷ []) before.requests a.request r at more n
       ∙ sym (ap (λ xs. answers_at before.requests n ++ xs) (ap (λ (o : Option ℕ). option_or_else o [] (own_answer before.queries (changed_nth g before.queries query) n)) reported
       ∙ ap₂ (λ (o : Option QueryRow) (b : Bool). cond (passes_option (λ x. is_running x && (x.request == n)) o && not b) (answer_under (changed_nth g before.queries query) query) [])
-      is (lost_once_told g keeps before.queries query a (answer, w.0) is w.1 ∙ heard)
+      is (lost_once_told g keeps before.queries query a (answer, w.0) is w.1 ∙ counts)
       ∙ ap (λ (b : Bool). cond (b && (a.request == n) && true) (answer_under (changed_nth g before.queries query) query) []) run
       ∙ as_told (a.request == n)
       (known_under (changed_nth g before.queries query) query (g a) (answer, w.0) (nth-changed g before.queries query ∙ ap (option_map g) is) w.1 ∙ ap (λ (x : Question). (x.db, answer) ∷ []) (keeps a).question)))
@@ -192,8 +192,8 @@ module _ (settings : Settings) (e : Entry) (origin : Tables) where
       makes = λ conn id random body m p. same_grew _ (λ n. new_listed answers_of before.requests (new_request e.moment conn id random body) n refl);
       loses = λ query given a g is run lost u p. lost_grew query (recorded_answer a.question.kind given) a (answered_by settings e.moment (nth before.requests a.request) (recorded_answer a.question.kind given)) (told_given e.input query given g) is (λ x. record { request = refl; question = refl }) (e.moment, refl) lost;
       loses_late = λ query given a g is run lost u p. lost_grew query (recorded_answer a.question.kind given) a (answered_by settings e.moment (nth before.requests a.request) (recorded_answer a.question.kind given)) (told_given e.input query given g) is (λ x. record { request = refl; question = refl }) (e.moment, refl) lost;
-      answers = λ query given a g is run heard u p. of_request query a (recorded_answer a.question.kind given) is run heard (with_answer a.question.db (recorded_answer a.question.kind given)) (λ r d. refl) (told_given e.input query given g);
-      lates = λ query given a g is run heard u p. of_request query a (recorded_answer a.question.kind given) is run heard (with_late_answer a.question.db (recorded_answer a.question.kind given))
+      answers = λ query given a g is run counts u p. of_request query a (recorded_answer a.question.kind given) is run counts (with_answer a.question.db (recorded_answer a.question.kind given)) (λ r d. refl) (told_given e.input query given g);
+      lates = λ query given a g is run counts u p. of_request query a (recorded_answer a.question.kind given) is run counts (with_late_answer a.question.db (recorded_answer a.question.kind given))
           (λ r d. ap (λ (b : Bool). (cond b r (with_answer a.question.db (recorded_answer a.question.kind given) r)).answers) d) (told_given e.input query given g);
     }
       where
@@ -213,9 +213,9 @@ module _ (settings : Settings) (e : Entry) (origin : Tables) where
             (f : Request → Request) → ((r : Request) → (is_some r.decided && not r.is_timed_out) ≡ false → (f r).answers ≡ r.answers ++ (a.question.db, answer) ∷ []) →
             told_query e.input ≡ Some query →
             Grew (record before { requests = changed_nth f before.requests a.request; queries = changed_nth (answered_by settings e.moment (nth before.requests a.request) answer) before.queries query })
-        of_request query a answer is run heard f more reported =
+        of_request query a answer is run counts f more reported =
             let row : IsAsked settings before.requests before.queries query a = asked query a is (unanswered a run) in
-            tell_grew query answer a f (answered_by settings e.moment (nth before.requests a.request) answer) reported is run (λ x. record { request = refl; question = refl }) (e.moment, refl) heard row.request row.is_there (more row.request (still_told row.request row.is_not_decided))
+            tell_grew query answer a f (answered_by settings e.moment (nth before.requests a.request) answer) reported is run (λ x. record { request = refl; question = refl }) (e.moment, refl) counts row.request row.is_there (more row.request (still_told row.request row.is_not_decided))
 
   -- ---- hits
 

@@ -126,8 +126,8 @@ module _ (settings : Settings) (e : Entry) (origin : Tables) where
     makes = λ conn id random body m p. p;
     loses = λ query given a g is run lost u p. both_answered query given a g is run p;
     loses_late = λ query given a g is run lost u p. both_answered query given a g is run p;
-    answers = λ query given a g is run heard u p. both_answered query given a g is run p;
-    lates = λ query given a g is run heard u p. both_answered query given a g is run p;
+    answers = λ query given a g is run counts u p. both_answered query given a g is run p;
+    lates = λ query given a g is run counts u p. both_answered query given a g is run p;
   }
 
   continued_came : ContinuedParts settings e.moment before e.input e.hits came_now came_after

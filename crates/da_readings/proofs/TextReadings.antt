@@ -156,8 +156,8 @@ module _ (settings : Settings) (e : Entry) (origin : Tables) where
     makes = λ conn id random body m p. silent _ _ (of_made conn id random body m).0 (λ n. new_listed texts_of before.requests (new_request e.moment conn id random body) n (of_made conn id random body m).1);
     loses = λ query given a g is run lost u p. silent _ _ (of_told query given g) (λ n. refl);
     loses_late = λ query given a g is run lost u p. p;
-    answers = λ query given a g is run heard u p. silent _ _ (of_told query given g) (changed_listed texts_of (with_answer a.question.db _) (λ r. refl) before.requests a.request);
-    lates = λ query given a g is run heard u p. still _ (changed_listed texts_of (with_late_answer a.question.db _) (λ r. ap texts_in (late_body a.question.db _ r)) before.requests a.request);
+    answers = λ query given a g is run counts u p. silent _ _ (of_told query given g) (changed_listed texts_of (with_answer a.question.db _) (λ r. refl) before.requests a.request);
+    lates = λ query given a g is run counts u p. still _ (changed_listed texts_of (with_late_answer a.question.db _) (λ r. ap texts_in (late_body a.question.db _ r)) before.requests a.request);
   }
 
   continued_texts : ContinuedParts settings e.moment before e.input e.hits texts_now texts_after

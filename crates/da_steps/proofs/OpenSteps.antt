@@ -128,7 +128,7 @@ module _ (settings : Settings) (moment : ℕ) (before : Tables) where
   leaves_answers : (query : ℕ) (a : QueryRow) (answer : Answer) → Leaves (after_answer_for settings moment query a answer before)
   leaves_answers query a answer = by_test Leaves (is_lost before.queries query a answer) _ _
       (λ lost. by_test Leaves (passes_option is_undecided (nth before.requests a.request)) _ _ (λ e conn. sym (and_true (is_open_in before conn))) (λ e conn. sym (and_true (is_open_in before conn))))
-      (λ heard. by_test Leaves (passes_option is_undecided (nth before.requests a.request)) _ _ (λ e conn. sym (and_true (is_open_in before conn))) (λ e conn. sym (and_true (is_open_in before conn))))
+      (λ counts. by_test Leaves (passes_option is_undecided (nth before.requests a.request)) _ _ (λ e conn. sym (and_true (is_open_in before conn))) (λ e conn. sym (and_true (is_open_in before conn))))
 
   leaves_records : (query : ℕ) (answer : Answer) (o : Option QueryRow) → Leaves (after_answer settings moment query answer o before)
   leaves_records query answer None = leaves before None (λ conn. refl)

@@ -288,10 +288,10 @@ module _ (settings : Settings) (moment : ℕ) (origin before : Tables) (entered 
     makes = λ conn id random body m p. with_requests origin before p _ (longer_rows RequestStands same_request request_later before.requests _);
     loses = λ query given a g is run lost u p. answered query given a is run p;
     loses_late = λ query given a g is run lost u p. answered query given a is run p;
-    answers = λ query given a g is run heard u p. with_requests origin (recorded settings moment before query a given) (answered query given a is run p) _
+    answers = λ query given a g is run counts u p. with_requests origin (recorded settings moment before query a given) (answered query given a is run p) _
         (changed_requests (with_answer a.question.db (recorded_answer a.question.kind given)) before.requests a.request
         (λ r e. answer_stands a.question.db (recorded_answer a.question.kind given) r (undecided_is r (of_undecided before.requests a.request r u e)).0));
-    lates = λ query given a g is run heard u p. with_requests origin (recorded settings moment before query a given) (answered query given a is run p) _
+    lates = λ query given a g is run counts u p. with_requests origin (recorded settings moment before query a given) (answered query given a is run p) _
         (changed_requests (with_late_answer a.question.db (recorded_answer a.question.kind given)) before.requests a.request
         (λ r e. late_stands a.question.db (recorded_answer a.question.kind given) r));
   }
