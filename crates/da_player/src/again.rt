@@ -1,6 +1,6 @@
 // A server that makes a step once more where it wanted memory.
 
-use crate::script::replies;
+use crate::script::replies_of;
 use crate::server::{Server, core_of};
 use da_core::{Core, Input, Outputs, Refused};
 use std::alloc::{AllocError, Global};
@@ -38,8 +38,13 @@ pub fn replies_of_core_again(
     settings: &[u8],
     script: &[u8],
 ) -> Result<Option<Vec<u8>>, AllocError> {
-    match core_of(alloc, settings, None)? {
-        Some(core) => Ok(Some(replies(alloc, &mut Repeating { alloc, core }, script)?)),
-        None => Ok(None),
+    let mut server = repeating_server(alloc, core_of(alloc, settings, None)?);
+    replies_of(alloc, &mut server, script)
+}
+
+fn repeating_server(alloc: Global, core: Option<Core>) -> Option<Repeating> {
+    match core {
+        Some(core) => Some(Repeating { alloc, core }),
+        None => None,
     }
 }

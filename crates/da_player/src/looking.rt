@@ -17,8 +17,17 @@ pub fn looks_right<L: Look>(
     goal: Option<Goal>,
     look: &L,
 ) -> Result<bool, AllocError> {
-    match core_of(alloc, settings, goal)? {
-        Some(mut core) => look.is_right(alloc, &mut core),
+    let mut core = core_of(alloc, settings, goal)?;
+    is_core_right(alloc, &mut core, look)
+}
+
+fn is_core_right<L: Look>(
+    alloc: Global,
+    core: &mut Option<Core>,
+    look: &L,
+) -> Result<bool, AllocError> {
+    match core {
+        Some(core) => look.is_right(alloc, core),
         None => Ok(false),
     }
 }

@@ -44,16 +44,26 @@ pub fn replies<S: Server>(
     Ok(replies)
 }
 
+// What the server gives out for the events of a script, where there is one.
+pub(crate) fn replies_of<S: Server>(
+    alloc: Global,
+    server: &mut Option<S>,
+    script: &[u8],
+) -> Result<Option<Vec<u8>>, AllocError> {
+    match server {
+        Some(server) => Ok(Some(replies(alloc, server, script)?)),
+        None => Ok(None),
+    }
+}
+
 /// What a new `Plain` gives out for the events of a script. `None` where the text of the settings has a fault.
 pub fn replies_of_plain(
     alloc: Global,
     settings: &[u8],
     script: &[u8],
 ) -> Result<Option<Vec<u8>>, AllocError> {
-    match plain_of(alloc, settings)? {
-        Some(mut server) => Ok(Some(replies(alloc, &mut server, script)?)),
-        None => Ok(None),
-    }
+    let mut server = plain_of(alloc, settings)?;
+    replies_of(alloc, &mut server, script)
 }
 
 /// What a new `Core` gives out for them, likewise.
@@ -62,8 +72,6 @@ pub fn replies_of_core(
     settings: &[u8],
     script: &[u8],
 ) -> Result<Option<Vec<u8>>, AllocError> {
-    match core_of(alloc, settings, None)? {
-        Some(mut server) => Ok(Some(replies(alloc, &mut server, script)?)),
-        None => Ok(None),
-    }
+    let mut server = core_of(alloc, settings, None)?;
+    replies_of(alloc, &mut server, script)
 }
