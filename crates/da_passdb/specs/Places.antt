@@ -78,17 +78,17 @@ abbrev pub part_move : Part → Passdb → Login → Progress → Option Answer 
 part_move part db login p answer = if is_of part db then move (are_masters part) db (asked_name part login) login p answer else GoOn p
 
 -- what a database does, where it leaves this state
-abbrev pub followed : Course → Progress → Move
-followed GoesOn p = GoOn p
-followed (Ends how) p = Stop (Ended how p)
-followed Jumps p = Stop (Jumped p)
+abbrev pub course_move : Course → Progress → Move
+course_move GoesOn p = GoOn p
+course_move (Ends how) p = Stop (Ended how p)
+course_move Jumps p = Stop (Jumped p)
 
 -- the same for a database that may be asked
-abbrev pub stepped : ChainStep → Passdb → Bytes → Progress → Move
-stepped StepsOn db name p = GoOn p
-stepped Asks db name p = asking db name p
-stepped (StepsOut how) db name p = Stop (Ended how p)
-stepped StepsOver db name p = Stop (Jumped p)
+abbrev pub step_move : ChainStep → Passdb → Bytes → Progress → Move
+step_move StepsOn db name p = GoOn p
+step_move Asks db name p = asking db name p
+step_move (StepsOut how) db name p = Stop (Ended how p)
+step_move StepsOver db name p = Stop (Jumped p)
 
 -- only the databases of masters jump
 abbrev pub JumpsFrom : Part → Course → Type 0

@@ -2,7 +2,7 @@
 
 ghost use Rattle.std.specs.Prelude.{◌≡◌, IfOk};
 ghost use Rattle.da_passdb.specs.LoginChain.{Ended, by_rule, ended, is_expired, no_progress};
-ghost use Rattle.da_passdb.specs.Places.{are_masters, followed, JumpsFrom};
+ghost use Rattle.da_passdb.specs.Places.{are_masters, course_move, JumpsFrom};
 
 use crate::chain::VerdictKind;
 use crate::part::Part;
@@ -89,8 +89,8 @@ impl Progress {
     }
 
     /// Obeys a rule: whether there is success, and how the chain goes on.
-    pub(crate) fn obey(&mut self, rule: Rule, succeeded: bool, part: Part) -> Course
-        ensures moves { followed result self.new ≡ by_rule rule succeeded (are_masters part) self.old }
+    pub(crate) fn apply(&mut self, rule: Rule, succeeded: bool, part: Part) -> Course
+        ensures moves { course_move result self.new ≡ by_rule rule succeeded (are_masters part) self.old }
         ensures jumps { JumpsFrom part result }
     {
         match rule {

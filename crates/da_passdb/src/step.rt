@@ -7,7 +7,7 @@ ghost use Rattle.da_passdb.specs.declared.database.Passdb.{Passdb};
 ghost use Rattle.da_passdb.specs.declared.part.Part.{Part};
 ghost use Rattle.da_passdb.specs.declared.progress.Progress.{Progress};
 ghost use Rattle.da_passdb.specs.LoginChain.{answer_move, deny_move, is_passed_over, is_skipped, is_unaskable, is_valid_passdb, with_outcome};
-ghost use Rattle.da_passdb.specs.Places.{are_masters, asked_name, asked_move, part_move, followed, stepped, JumpsFrom, StepsFrom, AsksUnchanged, HasCredentials};
+ghost use Rattle.da_passdb.specs.Places.{are_masters, asked_name, asked_move, part_move, course_move, step_move, JumpsFrom, StepsFrom, AsksUnchanged, HasCredentials};
 
 use crate::chain::VerdictKind;
 use crate::database::{Passdb, Skip};
@@ -36,7 +36,7 @@ pub(crate) enum ChainStep {
 
 impl ChainStep {
     fn of(course: Course) -> ChainStep
-        ensures moves { (db : Passdb) (name : Bytes) (p : Progress) → stepped result db name p ≡ followed course p }
+        ensures moves { (db : Passdb) (name : Bytes) (p : Progress) → step_move result db name p ≡ course_move course p }
         ensures asks { (answer : Option Answer) (before after : Progress) → AsksUnchanged result answer before after }
         ensures jumps { (part : Part) → JumpsFrom part course → StepsFrom part result }
     {
@@ -74,7 +74,7 @@ fn is_unaskable(db: &Passdb, login: &Login, checked: bool) -> bool
 
 // What a deny database's answer does.
 fn denied(answer: &Answer) -> Course
-    ensures moves { (db : Passdb) (name : Bytes) (p : Progress) → followed result p ≡ deny_move db name p (Some answer.now) }
+    ensures moves { (db : Passdb) (name : Bytes) (p : Progress) → course_move result p ≡ deny_move db name p (Some answer.now) }
     ensures jumps { (part : Part) → JumpsFrom part result }
 {
     match answer {
@@ -132,7 +132,7 @@ fn follow(
     progress: &mut Progress,
 ) -> Result<Course, AllocError>
     requires { IsTrue (is_valid_passdb db.now) }
-    ensures moves { IfOk result (λ course. (name : Bytes) → followed course progress.new ≡ answer_move (are_masters part) db.now name login.now progress.old (Some answer.now)) }
+    ensures moves { IfOk result (λ course. (name : Bytes) → course_move course progress.new ≡ answer_move (are_masters part) db.now name login.now progress.old (Some answer.now)) }
     ensures jumps { IfOk result (λ course. JumpsFrom part course) }
 {
     let judged = judge(alloc, db, login, progress.checked, answer, memo)?;
@@ -145,7 +145,7 @@ fn follow(
         outcome,
     );
     let succeeded = matches!(outcome, Outcome::Success);
-    Ok(progress.obey(rule, succeeded, part))
+    Ok(progress.apply(rule, succeeded, part))
 }
 
 /// What a chain does after the answer of a database that was asked. The memo has passwords that were checked already.
@@ -159,7 +159,7 @@ pub(crate) fn judge_answer(
     progress: &mut Progress,
 ) -> Result<Course, AllocError>
     requires { IsTrue (is_valid_passdb db.now) }
-    ensures moves { IfOk result (λ course. followed course progress.new ≡ asked_move part db.now login.now progress.old (Some answer.now)) }
+    ensures moves { IfOk result (λ course. course_move course progress.new ≡ asked_move part db.now login.now progress.old (Some answer.now)) }
     ensures jumps { IfOk result (λ course. JumpsFrom part course) }
 {
     if db.deny {
@@ -179,7 +179,7 @@ pub(crate) fn visit(
     progress: &mut Progress,
 ) -> Result<ChainStep, AllocError>
     requires { IsTrue (is_valid_passdb db.now) }
-    ensures moves { IfOk result (λ step. stepped step db.now (asked_name part login.now) progress.new ≡ part_move part db.now login.now progress.old (option_copied answer.entry)) }
+    ensures moves { IfOk result (λ step. step_move step db.now (asked_name part login.now) progress.new ≡ part_move part db.now login.now progress.old (option_copied answer.entry)) }
     ensures asks { IfOk result (λ step. AsksUnchanged step (option_copied answer.entry) progress.old progress.new) }
     ensures jumps { IfOk result (λ step. StepsFrom part step) }
 {
@@ -187,7 +187,7 @@ pub(crate) fn visit(
         return Ok(ChainStep::GoesOn);
     }
     if !db.deny && is_unaskable(db, login, progress.checked) {
-        let course = progress.obey(db.result_failure, false, part);
+        let course = progress.apply(db.result_failure, false, part);
         return Ok(ChainStep::of(course));
     }
     let Some(answer) = answer else {

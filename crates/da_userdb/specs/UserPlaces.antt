@@ -29,15 +29,15 @@ lookup_of s = lookup_for s.user.now s.passdb_fields.now s.vars.now
 -- ---- steps
 
 -- what a database does, where it leaves this state
-abbrev pub followed : Course → UserProgress → UserMove
-followed GoesOn p = UserGoOn p
-followed Ends p = UserStop (user_end p)
+abbrev pub course_move : Course → UserProgress → UserMove
+course_move GoesOn p = UserGoOn p
+course_move Ends p = UserStop (user_end p)
 
 -- the same for a database of this number that may be asked
-abbrev pub stepped : ChainStep → ℕ → UserProgress → UserMove
-stepped StepsOn db p = UserGoOn p
-stepped Asks db p = UserStop (Ask db)
-stepped StepsOut db p = UserStop (user_end p)
+abbrev pub step_move : ChainStep → ℕ → UserProgress → UserMove
+step_move StepsOn db p = UserGoOn p
+step_move Asks db p = UserStop (Ask db)
+step_move StepsOut db p = UserStop (user_end p)
 
 -- a database without an answer may be asked, and then nothing changes
 abbrev pub AsksUnchanged : ChainStep → Option Answer → UserProgress → UserProgress → Type 0

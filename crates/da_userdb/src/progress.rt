@@ -2,7 +2,7 @@
 
 ghost use Rattle.std.specs.Prelude.{◌≡◌, IfOk};
 ghost use Rattle.da_userdb.specs.UserChain.{by_user_rule, no_user_progress, user_end};
-ghost use Rattle.da_userdb.specs.UserPlaces.{followed};
+ghost use Rattle.da_userdb.specs.UserPlaces.{course_move};
 
 use crate::database::UserChain;
 use da_fields::{Fields, Rule};
@@ -64,8 +64,8 @@ impl UserProgress {
     }
 
     /// Obeys a rule: whether there is success, and whether the chain goes on.
-    pub(crate) fn obey(&mut self, rule: Rule) -> Course
-        ensures { followed result self.new ≡ by_user_rule rule self.old }
+    pub(crate) fn apply(&mut self, rule: Rule) -> Course
+        ensures { course_move result self.new ≡ by_user_rule rule self.old }
     {
         match rule {
             Rule::ReturnOk | Rule::ContinueOk => self.found = true,

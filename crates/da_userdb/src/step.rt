@@ -4,7 +4,7 @@ ghost use Rattle.std.specs.Prelude.{◌≡◌, ℕ, IfOk, IsTrue, Option, Some, 
 ghost use Rattle.da_fields.specs.declared.answer.Answer.{Answer};
 ghost use Rattle.da_userdb.specs.declared.progress.UserProgress.{UserProgress};
 ghost use Rattle.da_userdb.specs.UserChain.{after_user_outcome, is_user_skipped, is_valid_userdb, prefetch_move, user_answer_move, user_move, user_outcome, with_user_outcome};
-ghost use Rattle.da_userdb.specs.UserPlaces.{lookup_of, followed, stepped, AsksUnchanged};
+ghost use Rattle.da_userdb.specs.UserPlaces.{lookup_of, course_move, step_move, AsksUnchanged};
 
 use crate::database::{Lookup, UserDriver, UserSkip, Userdb};
 use crate::progress::{Course, UserProgress};
@@ -111,7 +111,7 @@ fn follow(
     progress: &mut UserProgress,
 ) -> Result<Course, AllocError>
     requires { IsTrue (is_valid_userdb db.now) }
-    ensures { IfOk result (λ course. followed course progress.new ≡ after_user_outcome db.now vars.now outcome found.now progress.old) }
+    ensures { IfOk result (λ course. course_move course progress.new ≡ after_user_outcome db.now vars.now outcome found.now progress.old) }
 {
     take_outcome(alloc, db, vars, outcome, found, progress)?;
     let rule = rule_for(
@@ -120,7 +120,7 @@ fn follow(
         db.result_internalfail,
         outcome,
     );
-    Ok(progress.obey(rule))
+    Ok(progress.apply(rule))
 }
 
 /// What a chain does after the answer of a database that was asked.
@@ -132,7 +132,7 @@ pub(crate) fn judge_answer(
     progress: &mut UserProgress,
 ) -> Result<Course, AllocError>
     requires { IsTrue (is_valid_userdb db.now) }
-    ensures { IfOk result (λ course. followed course progress.new ≡ user_answer_move db.now (lookup_of subject.now) progress.old (Some answer.now)) }
+    ensures { IfOk result (λ course. course_move course progress.new ≡ user_answer_move db.now (lookup_of subject.now) progress.old (Some answer.now)) }
 {
     let none = Fields::new(alloc);
     let outcome = outcome_of(answer);
@@ -148,7 +148,7 @@ fn prefetch(
     progress: &mut UserProgress,
 ) -> Result<Course, AllocError>
     requires { IsTrue (is_valid_userdb db.now) }
-    ensures { IfOk result (λ course. followed course progress.new ≡ prefetch_move db.now (lookup_of subject.now) progress.old) }
+    ensures { IfOk result (λ course. course_move course progress.new ≡ prefetch_move db.now (lookup_of subject.now) progress.old) }
 {
     let part = userdb_part(alloc, subject.passdb_fields)?;
     let outcome = if part.pairs().is_empty() {
@@ -161,7 +161,7 @@ fn prefetch(
 
 impl ChainStep {
     fn of(course: Course) -> ChainStep
-        ensures moves { (db : ℕ) (p : UserProgress) → stepped result db p ≡ followed course p }
+        ensures moves { (db : ℕ) (p : UserProgress) → step_move result db p ≡ course_move course p }
         ensures asks { (answer : Option Answer) (before after : UserProgress) → AsksUnchanged result answer before after }
     {
         match course {
@@ -181,7 +181,7 @@ pub(crate) fn visit(
     progress: &mut UserProgress,
 ) -> Result<ChainStep, AllocError>
     requires { IsTrue (is_valid_userdb db.now) }
-    ensures moves { IfOk result (λ step. stepped step db.now.number progress.new ≡ user_move db.now (lookup_of subject.now) progress.old (option_copied answer.entry)) }
+    ensures moves { IfOk result (λ step. step_move step db.now.number progress.new ≡ user_move db.now (lookup_of subject.now) progress.old (option_copied answer.entry)) }
     ensures asks { IfOk result (λ step. AsksUnchanged step (option_copied answer.entry) progress.old progress.new) }
 {
     if is_skipped(db.skip, progress.found) {
