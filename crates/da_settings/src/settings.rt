@@ -86,11 +86,13 @@ impl Settings {
     pub fn copy(&self, alloc: Global) -> Result<Settings, AllocError>
         ensures { IfOk result (λ settings. settings ≡ self.now) }
     {
+        let texts = self.texts(alloc)?;
+        let lists = self.lists(alloc)?;
         Ok(Settings {
             server_pid: self.server_pid,
-            host: self.host.copy(alloc)?,
-            mechanisms: self.mechanisms.copy(alloc)?,
-            username_chars: self.username_chars.copy(alloc)?,
+            host: texts.host,
+            mechanisms: lists.mechanisms,
+            username_chars: texts.username_chars,
             username_lower: self.username_lower,
             master_separator: self.master_separator,
             failure_delay: self.failure_delay,
@@ -100,16 +102,58 @@ impl Settings {
             query_limit: self.query_limit,
             request_limit: self.request_limit,
             workers: self.workers,
-            worker_command: self.worker_command.copy(alloc)?,
-            client_socket: self.client_socket.copy(alloc)?,
-            master_socket: self.master_socket.copy(alloc)?,
+            worker_command: lists.worker_command,
+            client_socket: texts.client_socket,
+            master_socket: texts.master_socket,
             history_entries: self.history_entries,
             history_bytes: self.history_bytes,
             connections: self.connections,
+            passdb: lists.passdb,
+            userdb: lists.userdb,
+        })
+    }
+
+    // Copies of its texts.
+    fn texts(&self, alloc: Global) -> Result<SettingTexts, AllocError>
+        ensures { IfOk result (λ texts. texts ≡ record { host = self.now.host; username_chars = self.now.username_chars; client_socket = self.now.client_socket; master_socket = self.now.master_socket }) }
+    {
+        Ok(SettingTexts {
+            host: self.host.copy(alloc)?,
+            username_chars: self.username_chars.copy(alloc)?,
+            client_socket: self.client_socket.copy(alloc)?,
+            master_socket: self.master_socket.copy(alloc)?,
+        })
+    }
+
+    // Copies of its lists.
+    fn lists(&self, alloc: Global) -> Result<SettingLists, AllocError>
+        ensures { IfOk result (λ lists. lists ≡ record { mechanisms = self.now.mechanisms; worker_command = self.now.worker_command; passdb = self.now.passdb; userdb = self.now.userdb }) }
+    {
+        Ok(SettingLists {
+            mechanisms: self.mechanisms.copy(alloc)?,
+            worker_command: self.worker_command.copy(alloc)?,
             passdb: self.passdb.copy(alloc)?,
             userdb: self.userdb.copy(alloc)?,
         })
     }
+}
+
+// The texts of settings, while they are copied.
+#[derive(Drop)]
+struct SettingTexts {
+    host: Text,
+    username_chars: Text,
+    client_socket: Text,
+    master_socket: Text,
+}
+
+// The lists of settings, while they are copied.
+#[derive(Drop)]
+struct SettingLists {
+    mechanisms: Mechs,
+    worker_command: Texts,
+    passdb: Passdbs,
+    userdb: Userdbs,
 }
 
 /// A run is over once so many connections of each kind were opened and none is open.
