@@ -6,6 +6,7 @@ ghost use Rattle.da_answers.specs.Hits.{newest, last_failed, may_use, is_usable_
 ghost use Rattle.da_answers.specs.RecordedAnswers.{key_of};
 ghost use Rattle.da_base.specs.Words.{nth, passes_option};
 ghost use Rattle.da_keys.specs.Keys.{same_key};
+ghost use Rattle.da_request.specs.Requests.{question_in, request_stage};
 
 use crate::recording::{key_of as key_for, ttl_of};
 use da_fields::Answer;
@@ -151,6 +152,20 @@ pub struct Hit {
     pub number: u32,
 }
 
+// What the request asks now.
+fn asked_by(
+    alloc: Global,
+    settings: &Settings,
+    request: &Request,
+) -> Result<Option<Question>, AllocError>
+    ensures { IfOk result (λ question. question ≡ question_in (request_stage settings.now request.now)) }
+{
+    match request.stage(alloc, settings)? {
+        Stage::Asks(question) => Ok(Some(question)),
+        Stage::Awaits(_) | Stage::Decided(_) => Ok(None),
+    }
+}
+
 // The hit for what the request asks now.
 fn next_hit(
     alloc: Global,
@@ -161,7 +176,7 @@ fn next_hit(
 ) -> Result<Option<Hit>, AllocError>
     ensures { IfOk result (λ hit. hit ≡ hit_next settings.now moment tables.now request.now) }
 {
-    let Stage::Asks(question) = request.stage(alloc, settings)? else {
+    let Some(question) = asked_by(alloc, settings, request)? else {
         return Ok(None);
     };
     match hit_for(alloc, settings, moment, tables, request, &question)? {
@@ -198,29 +213,46 @@ fn take_hit(
     }
 }
 
-// The hits for the request over at most so many databases are put last.
+// The hits for the request over at most so many databases are put last, and the request has them.
 fn add_hits(
     alloc: Global,
     settings: &Settings,
     moment: u64,
     tables: &Tables,
     databases: usize,
-    request: Request,
+    request: &mut Request,
     hits: &mut Vec<u32>,
 ) -> Result<(), AllocError>
-    ensures { OnOk result (hits.new.items ≡ hits.old.items ++ hits_from databases settings.now moment tables.now request) }
+    ensures { OnOk result (hits.new.items ≡ hits.old.items ++ hits_from databases settings.now moment tables.now request.old) }
 {
-    let mut request = request;
     let mut left = databases;
     while left > 0 {
-        let Some(hit) = next_hit(alloc, settings, moment, tables, &request)? else {
+        let Some(hit) = next_hit(alloc, settings, moment, tables, request)? else {
             return Ok(());
         };
         hits.push(hit.number)?;
-        take_hit(alloc, tables, &hit, &mut request)?;
+        take_hit(alloc, tables, &hit, request)?;
         left -= 1;
     }
     Ok(())
+}
+
+// The hits for a request whose hit this is, over at most so many databases after that one, are put last.
+fn add_hits_after(
+    alloc: Global,
+    settings: &Settings,
+    moment: u64,
+    tables: &Tables,
+    databases: usize,
+    request: &Request,
+    first: &Hit,
+    hits: &mut Vec<u32>,
+) -> Result<(), AllocError>
+    ensures { OnOk result (hits.new.items ≡ hits.old.items ++ hits_from databases settings.now moment tables.now (with_hit tables.now first.now.question first.now.number request.now)) }
+{
+    let mut after = request.copy(alloc)?;
+    take_hit(alloc, tables, first, &mut after)?;
+    add_hits(alloc, settings, moment, tables, databases, &mut after, hits)
 }
 
 // The hits for a request, whose first hit this is, over at most so many databases after that one.
@@ -237,9 +269,9 @@ fn hits_after(
 {
     let mut hits = Vec::new(alloc);
     hits.push(first.number)?;
-    let mut after = request.copy(alloc)?;
-    take_hit(alloc, tables, first, &mut after)?;
-    add_hits(alloc, settings, moment, tables, databases, after, &mut hits)?;
+    add_hits_after(
+        alloc, settings, moment, tables, databases, request, first, &mut hits,
+    )?;
     Ok(hits)
 }
 
