@@ -57,8 +57,25 @@ fn hits_of(
         return Ok(Vec::new(alloc));
     }
     let mut ahead = tables.copy(alloc)?;
-    before_input(&mut ahead, alloc, settings, moment, input)?;
-    let effect = apply_input(&mut ahead, alloc, settings, moment, input)?;
+    hits_ahead(&mut ahead, alloc, settings, tables, moment, input)
+}
+
+/// The hits after these tables of the request that an input moves, where `ahead` goes on by that input first.
+fn hits_ahead(
+    ahead: &mut Tables,
+    alloc: Global,
+    settings: &Settings,
+    tables: &Tables,
+    moment: u64,
+    input: &Input,
+) -> Result<Vec<u32>, AllocError>
+    requires requests { length ahead.old.requests < 2 ^ 32 - 1 }
+    requires connections { length ahead.old.connections < 2 ^ 32 - 1 }
+    requires queries { length ahead.old.queries < 2 ^ 32 - 1 }
+    ensures { IfOk result (λ hits. hits.items ≡ hits_for settings.now moment tables.now (after_input settings.now moment input.now (spec_before_input settings.now moment input.now ahead.old))) }
+{
+    before_input(ahead, alloc, settings, moment, input)?;
+    let effect = apply_input(ahead, alloc, settings, moment, input)?;
     let Some(number) = effect.continued else {
         return Ok(Vec::new(alloc));
     };
@@ -120,6 +137,38 @@ fn left_after(left: u64, input: &Input, due: &[(u32, Text)], own: &[(u32, Text)]
     left_after_lines(left_after_lines(rest, due), own)
 }
 
+/// Goes on by the entry of this number, and gives out what comes of it.
+fn give_out(
+    replayed: &mut Replayed,
+    alloc: Global,
+    settings: &Settings,
+    number: u64,
+    entry: &Entry,
+) -> Result<Outputs, AllocError>
+    requires requests { length replayed.old.tables.requests < 2 ^ 32 - 1 }
+    requires connections { length replayed.old.tables.connections < 2 ^ 32 - 1 }
+    requires queries { length replayed.old.tables.queries < 2 ^ 32 - 1 }
+    ensures outputs { IfOk result (λ out. out ≡ outputs_with settings.now number entry.now.hits (after settings.now replayed.old.tables entry.now) (effects settings.now replayed.old.tables entry.now)) }
+    ensures passes { OnOk result (PassesTo settings.now entry.now replayed.old replayed.new) }
+{
+    let effects = apply_entry(&mut replayed.tables, alloc, settings, entry)?;
+    let outputs = outputs_of(
+        alloc,
+        settings,
+        number,
+        &entry.hits,
+        &replayed.tables,
+        &effects,
+    )?;
+    replayed.bytes_left = left_after(
+        replayed.bytes_left,
+        &entry.input,
+        outputs.due_lines.all(),
+        outputs.lines.all(),
+    );
+    Ok(outputs)
+}
+
 /// The entry of this number that an input makes after these tables, and all that comes of it.
 fn enter(
     alloc: Global,
@@ -136,28 +185,18 @@ fn enter(
     ensures outputs { IfOk result (λ entered. entered.outputs ≡ outputs_with settings.now number entered.entry.hits (after settings.now replayed.tables entered.entry) (effects settings.now replayed.tables entered.entry)) }
     ensures passes { IfOk result (λ entered. PassesTo settings.now entered.entry replayed entered.replayed) }
 {
-    let Replayed {
-        mut tables,
-        bytes_left,
-    } = replayed;
-    let hits = Numbers::new(hits_of(alloc, settings, &tables, moment, &input)?);
+    let hits = Numbers::new(hits_of(alloc, settings, &replayed.tables, moment, &input)?);
     let entry = Entry {
         moment,
         input,
         hits,
     };
-    let effects = apply_entry(&mut tables, alloc, settings, &entry)?;
-    let outputs = outputs_of(alloc, settings, number, &entry.hits, &tables, &effects)?;
-    let bytes_left = left_after(
-        bytes_left,
-        &entry.input,
-        outputs.due_lines.all(),
-        outputs.lines.all(),
-    );
+    let mut replayed = replayed;
+    let outputs = give_out(&mut replayed, alloc, settings, number, &entry)?;
     Ok(Entered {
         entry,
         outputs,
-        replayed: Replayed { tables, bytes_left },
+        replayed,
     })
 }
 
