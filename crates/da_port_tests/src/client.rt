@@ -7,6 +7,7 @@ use da_fields::{Answer, Text};
 use da_msgs::ConnKind;
 use da_port::{Port, Seat};
 use std::alloc::Global;
+use std::process::Abort;
 use std::sync::Wait;
 
 // In the order of a client that logs in three times.
@@ -29,8 +30,8 @@ pub fn named(thread: u8, number: u8) -> [u8; 16] {
 }
 
 // Without a clause, so that no proof goes through the bytes of a line.
-fn text_of(alloc: Global, line: &[u8]) -> Option<Text> {
-    Text::from_slice(alloc, line).ok()
+fn text_of<R: Abort>(rt: &R, alloc: Global, line: &[u8]) -> Text {
+    Text::from_slice(alloc, line).expect(rt, "memory")
 }
 
 /// Opens a connection of a client, and answers its number.
@@ -43,7 +44,7 @@ pub fn open<R: Wait>(rt: &R, port: &Port, seat: &mut Seat, thread: u8) -> Option
 }
 
 /// Sends a line, and answers 1 where the connection is still open, and else 0.
-pub fn say<R: Wait>(
+pub fn say<R: Wait + Abort>(
     rt: &R,
     alloc: Global,
     port: &Port,
@@ -55,7 +56,7 @@ pub fn say<R: Wait>(
     requires { IsOf port.now seat.old × IsFree seat.old }
     ensures { IsOf port.now seat.new × IsFree seat.new }
 {
-    let text = text_of(alloc, line)?;
+    let text = text_of(rt, alloc, line);
     match port.line(rt, seat, 0, conn, text, random) {
         Ok(is_open) => Some(u32::from(is_open)),
         Err(_) => None,
@@ -67,7 +68,8 @@ fn take<R: Wait>(rt: &R, port: &Port, seat: &mut Seat) -> Option<u32>
     requires { IsOf port.now seat.old × IsFree seat.old }
     ensures { IsOf port.now seat.new × IsFree seat.new }
 {
-    match port.take_query(rt, seat, 0) {
+    let taken = port.take_query(rt, seat, 0);
+    match &taken {
         Ok(Some(query)) => Some(query.number),
         _ => None,
     }

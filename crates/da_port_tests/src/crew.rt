@@ -1,12 +1,13 @@
 // Threads on one port.
 
-ghost use Rattle.std.specs.Prelude.{◌≡◌, All, IfSome};
+ghost use Rattle.std.specs.Prelude.{◌≡◌, All};
 ghost use Rattle.da_turn.specs.Seats.{IsFree, IsOf};
 
 use crate::{replay, ticks, waits};
 use da_core::{Core, Goal};
 use da_port::{Port, Seat};
 use std::alloc::Global;
+use std::process::Abort;
 use std::sync::Wait;
 use std::thread;
 use std::thread::Threads;
@@ -43,14 +44,14 @@ struct Done {
 }
 
 // A port that serves by the settings of a text, and its first seat.
-fn port_of(alloc: Global, settings: &[u8], goal: Option<Goal>) -> Option<(Port, Seat)>
-    ensures { IfSome result (λ r. IsOf r.0 r.1 × IsFree r.1) }
+fn port_of<R: Abort>(rt: &R, alloc: Global, settings: &[u8], goal: Option<Goal>) -> (Port, Seat)
+    ensures { IsOf result.0 result.1 × IsFree result.1 }
 {
-    let settings = da_config::read(alloc, settings).ok()?;
-    Port::new(alloc, settings, goal).ok()
+    let settings = da_config::read(alloc, settings).expect(rt, "settings");
+    Port::new(alloc, settings, goal).expect(rt, "memory")
 }
 
-fn play<R: Wait>(
+fn play<R: Wait + Abort>(
     rt: &R,
     alloc: Global,
     port: &Port,
@@ -72,7 +73,7 @@ fn play<R: Wait>(
     }
 }
 
-fn work<R: Wait>(rt: &R, alloc: Global, port: &Port, job: Job) -> Done
+fn work<R: Wait + Abort>(rt: &R, alloc: Global, port: &Port, job: Job) -> Done
     requires { IsOf port.now job.seat × IsFree job.seat }
     ensures { IsOf port.now result.seat × IsFree result.seat }
 {
@@ -86,10 +87,10 @@ fn work<R: Wait>(rt: &R, alloc: Global, port: &Port, job: Job) -> Done
     Done { seat, told }
 }
 
-fn jobs(alloc: Global, port: &Port, seat: &mut Seat, roles: &[Role]) -> Option<Vec<Job>>
+fn jobs<R: Abort>(rt: &R, alloc: Global, port: &Port, seat: &mut Seat, roles: &[Role]) -> Vec<Job>
     requires { IsOf port.now seat.old × IsFree seat.old }
     ensures seat { IsOf port.now seat.new × IsFree seat.new }
-    ensures jobs { IfSome result (λ v. All (λ j. IsOf port.now j.seat × IsFree j.seat) v.items) }
+    ensures jobs { All (λ j. IsOf port.now j.seat × IsFree j.seat) result.items }
 {
     let mut jobs = Vec::new(alloc);
     let mut thread = 0u8;
@@ -99,19 +100,20 @@ fn jobs(alloc: Global, port: &Port, seat: &mut Seat, roles: &[Role]) -> Option<V
             thread,
             seat: port.split(seat),
         };
-        jobs.push(job).ok()?;
+        jobs.push(job).expect(rt, "memory");
         thread = thread.saturating_add(1);
     }
-    Some(jobs)
+    jobs
 }
 
 // Joins the seats that came back, and gives what each thread was told.
-fn join_all(
+fn join_all<R: Abort>(
+    rt: &R,
     alloc: Global,
     port: &Port,
     seat: &mut Seat,
     mut dones: Vec<Done>,
-) -> Option<Vec<Vec<u32>>>
+) -> Vec<Vec<u32>>
     requires seat { IsOf port.now seat.old × IsFree seat.old }
     requires dones { All (λ d. IsOf port.now d.seat × IsFree d.seat) dones.items }
     ensures { IsOf port.now seat.new × IsFree seat.new }
@@ -119,24 +121,24 @@ fn join_all(
     let mut all = Vec::new(alloc);
     while let Some(done) = dones.pop() {
         port.join(seat, done.seat);
-        all.push(done.told).ok()?;
+        all.push(done.told).expect(rt, "memory");
     }
     all.reverse();
-    Some(all)
+    all
 }
 
 // Lets a thread play each of these roles, and gives what each was told.
-fn play_all<R: Threads + Wait + Sync>(
+fn play_all<R: Threads + Wait + Abort + Sync>(
     rt: &R,
     alloc: Global,
     port: &Port,
     seat: &mut Seat,
     roles: &[Role],
-) -> Option<Vec<Vec<u32>>>
+) -> Vec<Vec<u32>>
     requires { IsOf port.now seat.old × IsFree seat.old }
     ensures { IsOf port.now seat.new × IsFree seat.new }
 {
-    let jobs = jobs(alloc, port, seat, roles)?;
+    let jobs = jobs(rt, alloc, port, seat, roles);
     let dones = thread::map_vec(
         rt,
         jobs,
@@ -145,20 +147,52 @@ fn play_all<R: Threads + Wait + Sync>(
             ensures { IsOf port.entry.now result.seat × IsFree result.seat }
         { work(rt, alloc, port, job) },
     )
-    .ok()?;
-    join_all(alloc, port, seat, dones)
+    .expect(rt, "memory");
+    join_all(rt, alloc, port, seat, dones)
 }
 
-/// The core after a run in which a thread plays each of these roles, and what each was told: numbers of connections and
-/// queries, a 1 for a line or a tick, and 1 or 0 for whether a connection was still open.
-pub fn run<R: Threads + Wait + Sync>(
+/// What is looked for after a run.
+#[derive(Clone, Copy, Drop)]
+pub enum Look {
+    /// The entries stand in order.
+    Order,
+    /// Whoever waited was woken.
+    Woken,
+    /// The history is played again.
+    Again,
+}
+
+/// A run in which a thread plays each of these roles, and what is looked for then.
+#[derive(Clone, Copy, Drop)]
+pub struct Scene<'a> {
+    pub settings: &'a [u8],
+    pub goal: Option<Goal>,
+    pub roles: &'a [Role],
+    pub look: Look,
+}
+
+// The core after a run, and what each thread was told: numbers of connections and queries, a 1 for a line or a tick, and 1 or
+// 0 for whether a connection was still open.
+fn run<R: Threads + Wait + Abort + Sync>(
     rt: &R,
     alloc: Global,
-    settings: &[u8],
-    goal: Option<Goal>,
-    roles: &[Role],
-) -> Option<(Core, Vec<Vec<u32>>)> {
-    let (port, mut seat) = port_of(alloc, settings, goal)?;
-    let told = play_all(rt, alloc, &port, &mut seat, roles)?;
-    Some((port.close(rt, seat), told))
+    scene: &Scene<'_>,
+) -> (Core, Vec<Vec<u32>>) {
+    let (port, mut seat) = port_of(rt, alloc, scene.settings, scene.goal);
+    let told = play_all(rt, alloc, &port, &mut seat, scene.roles);
+    (port.close(rt, seat), told)
+}
+
+/// Whether a run of the scene leaves what is looked for.
+pub fn is_right<R: Threads + Wait + Abort + Sync>(
+    rt: &R,
+    alloc: Global,
+    scene: &Scene<'_>,
+) -> bool {
+    let (core, told) = run(rt, alloc, scene);
+    match scene.look {
+        Look::Order => ticks::are_in_order(core.entries()),
+        Look::Woken => waits::were_woken(&told),
+        Look::Again => replay::is_played_again(rt, alloc, &core, &told),
+    }
 }

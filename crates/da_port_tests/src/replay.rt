@@ -4,17 +4,19 @@ ghost use Rattle.std.specs.Prelude.{◌≡◌};
 ghost use Rattle.da_turn.specs.Seats.{IsFree, IsOf};
 
 use crate::client::{answer, line_of, named, open, say};
-use crate::crew::{Role, run};
+use crate::crew::{Look, Role, Scene, is_right};
 use da_core::{Core, Entry, Input, Outputs};
 use da_port::{Port, Seat};
 use da_script::{print_event, read_event};
-use std::alloc::{AllocError, Global};
+use std::alloc::Global;
+use std::process::Abort;
 use std::sync::Wait;
-use std::test::Fail;
 
 const SETTINGS: &[u8] = b"failure_delay = 0\n";
 
 const CALLS: u32 = 150;
+
+const THREADS: u8 = 4;
 
 // The place of the worker among the threads.
 const WORKER: u8 = 3;
@@ -27,7 +29,7 @@ fn next_random(state: u64) -> u64 {
 }
 
 // One call of a client on its latest connection, and what it is told.
-fn call<R: Wait>(
+fn call<R: Wait + Abort>(
     rt: &R,
     alloc: Global,
     port: &Port,
@@ -62,7 +64,7 @@ fn call<R: Wait>(
 }
 
 /// What a client does on one connection after another.
-pub fn talk<R: Wait>(
+pub fn talk<R: Wait + Abort>(
     rt: &R,
     alloc: Global,
     port: &Port,
@@ -114,66 +116,81 @@ fn told_by(input: &Input, out: &Outputs) -> Option<(u8, u32)> {
 }
 
 // The entry's event, printed and read.
-fn read_again(alloc: Global, entry: &Entry) -> Option<(u64, Input)> {
-    let line = print_event(alloc, entry.moment, &entry.input).ok()?;
-    read_event(alloc, &line).ok()?
+fn read_again<R: Abort>(rt: &R, alloc: Global, entry: &Entry) -> (u64, Input) {
+    let line = print_event(alloc, entry.moment, &entry.input).expect(rt, "memory");
+    let event = read_event(alloc, &line).expect(rt, "memory");
+    event.expect(rt, "an event")
 }
 
 // What the printed entry gives out.
-fn play(alloc: Global, core: &mut Core, entry: &Entry) -> Option<Outputs> {
-    let (moment, input) = read_again(alloc, entry)?;
-    core.step(moment, input).ok()
+fn play<R: Abort>(rt: &R, alloc: Global, core: &mut Core, entry: &Entry) -> Outputs {
+    let (moment, input) = read_again(rt, alloc, entry);
+    core.step(moment, input).expect(rt, "an entry")
 }
 
 // Notes what the thread was told.
-fn note(told: &mut [Vec<u32>], thread: u8, number: u32) {
+fn note<R: Abort>(rt: &R, told: &mut [Vec<u32>], thread: u8, number: u32) {
     if let Some(numbers) = told.get_mut(usize::from(thread)) {
-        let _ = numbers.push(number);
+        numbers.push(number).expect(rt, "memory");
     }
 }
 
-// Plays the printed entries, and notes what each thread is told.
-fn play_all(
+// Plays the printed entry, and notes what its thread is told.
+fn play_noted<R: Abort>(
+    rt: &R,
+    alloc: Global,
+    core: &mut Core,
+    entry: &Entry,
+    told: &mut [Vec<u32>],
+) {
+    let out = play(rt, alloc, core, entry);
+    if let Some((thread, number)) = told_by(&entry.input, &out) {
+        note(rt, told, thread, number);
+    }
+}
+
+fn play_all<R: Abort>(
+    rt: &R,
     alloc: Global,
     core: &mut Core,
     entries: &[Entry],
     told: &mut [Vec<u32>],
-) -> Option<()> {
+) {
     for entry in entries {
-        let out = play(alloc, core, entry)?;
-        if let Some((thread, number)) = told_by(&entry.input, &out) {
-            note(told, thread, number);
-        }
+        play_noted(rt, alloc, core, entry, told);
     }
-    Some(())
 }
 
-fn core_of(alloc: Global) -> Option<Core> {
-    let settings = da_config::read(alloc, SETTINGS).ok()?;
-    Core::new(alloc, settings, None).ok()
+fn core_of<R: Abort>(rt: &R, alloc: Global) -> Core {
+    let settings = da_config::read(alloc, SETTINGS).expect(rt, "settings");
+    Core::new(alloc, settings, None).expect(rt, "memory")
 }
 
 // For each thread that nothing was told.
-fn blank(alloc: Global) -> Option<Vec<Vec<u32>>> {
+fn blank<R: Abort>(rt: &R, alloc: Global) -> Vec<Vec<u32>> {
     let mut told = Vec::new(alloc);
-    for _ in 0..=WORKER {
-        told.push(Vec::new(alloc)).ok()?;
+    for _ in 0..THREADS {
+        told.push(Vec::new(alloc)).expect(rt, "memory");
     }
-    Some(told)
+    told
 }
 
-// Whether the printed history of the core is played by another one, entry by entry, and each thread is told the same.
-fn is_played_again(alloc: Global, done: &Core, told: &[Vec<u32>]) -> Option<bool> {
-    let mut core = core_of(alloc)?;
-    let mut again = blank(alloc)?;
-    play_all(alloc, &mut core, done.entries(), &mut again)?;
-    Some(core.entries().len() == done.entries().len() && again.as_slice() == told)
+/// Whether the printed history of the core is played by another one, entry by entry, and each thread is told the same.
+pub fn is_played_again<R: Abort>(rt: &R, alloc: Global, done: &Core, told: &[Vec<u32>]) -> bool {
+    let mut core = core_of(rt, alloc);
+    let mut again = blank(rt, alloc);
+    play_all(rt, alloc, &mut core, done.entries(), &mut again);
+    core.entries().len() == done.entries().len() && again.as_slice() == told
 }
+
+const SCENE: Scene<'static> = Scene {
+    settings: SETTINGS,
+    goal: None,
+    roles: &[Role::Talker, Role::Talker, Role::Talker, Role::Worker],
+    look: Look::Again,
+};
 
 #[test]
-fn a_printed_history_is_played_to_the_same_replies(rt: HostRuntime) -> Result<(), Fail> {
-    let roles = [Role::Talker, Role::Talker, Role::Talker, Role::Worker];
-    let (done, told) = run(&rt, rt.alloc(), SETTINGS, None, &roles).ok_or(AllocError)?;
-    assert!(rt; is_played_again(rt.alloc(), &done, &told) == Some(true));
-    Ok(())
+fn a_printed_history_is_played_to_the_same_replies(rt: HostRuntime) {
+    assert!(rt; is_right(&rt, rt.alloc(), &SCENE));
 }

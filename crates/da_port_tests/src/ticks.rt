@@ -4,12 +4,12 @@ ghost use Rattle.std.specs.Prelude.{◌≡◌};
 ghost use Rattle.da_turn.specs.Seats.{IsFree, IsOf};
 
 use crate::client::{line_of, named, open, say};
-use crate::crew::{Role, run};
+use crate::crew::{Look, Role, Scene, is_right};
 use da_core::{Entry, Input};
 use da_port::{Port, Seat};
-use std::alloc::{AllocError, Global};
+use std::alloc::Global;
+use std::process::Abort;
 use std::sync::Wait;
-use std::test::Fail;
 
 const TICKS: u8 = 100;
 
@@ -19,7 +19,7 @@ fn pid_of(thread: u8) -> &'static [u8] {
 }
 
 /// Opens a connection, and then sends numbered lines and records ticks in turn.
-pub fn tick<R: Wait>(rt: &R, alloc: Global, port: &Port, seat: &mut Seat, thread: u8)
+pub fn tick<R: Wait + Abort>(rt: &R, alloc: Global, port: &Port, seat: &mut Seat, thread: u8)
     requires { IsOf port.now seat.old × IsFree seat.old }
     ensures { IsOf port.now seat.new × IsFree seat.new }
 {
@@ -68,13 +68,19 @@ fn tick_count(entries: &[Entry]) -> usize {
     count
 }
 
+/// Whether the numbered lines and the ticks of two threads stand there, each once and in its order, and nothing else.
+pub fn are_in_order(entries: &[Entry]) -> bool {
+    has_all(entries, 0) && has_all(entries, 1) && tick_count(entries) == 200 && entries.len() == 406
+}
+
+const SCENE: Scene<'static> = Scene {
+    settings: b"",
+    goal: None,
+    roles: &[Role::Ticker, Role::Ticker],
+    look: Look::Order,
+};
+
 #[test]
-fn entries_of_two_threads_stand_once_and_in_their_order(rt: HostRuntime) -> Result<(), Fail> {
-    let roles = [Role::Ticker, Role::Ticker];
-    let (core, _) = run(&rt, rt.alloc(), b"", None, &roles).ok_or(AllocError)?;
-    let entries = core.entries();
-    assert!(rt; has_all(entries, 0) && has_all(entries, 1));
-    assert_eq!(rt; tick_count(entries), 200);
-    assert_eq!(rt; entries.len(), 406);
-    Ok(())
+fn entries_of_two_threads_stand_once_and_in_their_order(rt: HostRuntime) {
+    assert!(rt; is_right(&rt, rt.alloc(), &SCENE));
 }

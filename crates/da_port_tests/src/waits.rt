@@ -4,12 +4,12 @@ ghost use Rattle.std.specs.Prelude.{◌≡◌};
 ghost use Rattle.da_turn.specs.Seats.{IsFree, IsOf};
 
 use crate::client::{answer, line_of, named, open, say};
-use crate::crew::{Role, run};
+use crate::crew::{Look, Role, Scene, is_right};
 use da_core::Goal;
 use da_port::{Mark, Port, Seat};
-use std::alloc::{AllocError, Global};
+use std::alloc::Global;
+use std::process::Abort;
 use std::sync::Wait;
-use std::test::Fail;
 
 // How often a thread looks at most. The clock looks again and again while a login is undecided or a query runs.
 const TURNS: u32 = 20_000;
@@ -59,7 +59,13 @@ fn hear<R: Wait>(rt: &R, port: &Port, seat: &mut Seat, conn: u32, told: &mut Vec
 
 /// Logs in three times, where the last reply is held back until the clock lets it go. Then it ends its connection, by which
 /// the goal is met.
-pub fn ask<R: Wait>(rt: &R, alloc: Global, port: &Port, seat: &mut Seat, told: &mut Vec<u32>)
+pub fn ask<R: Wait + Abort>(
+    rt: &R,
+    alloc: Global,
+    port: &Port,
+    seat: &mut Seat,
+    told: &mut Vec<u32>,
+)
     requires { IsOf port.now seat.old × IsFree seat.old }
     ensures { IsOf port.now seat.new × IsFree seat.new }
 {
@@ -141,12 +147,21 @@ fn count(told: &[Vec<u32>], place: usize) -> usize {
     }
 }
 
+/// Whether the first thread heard all lines, the clock had work, and the servers answered all queries.
+pub fn were_woken(told: &[Vec<u32>]) -> bool {
+    count(told, 0) == LINES
+        && count(told, 1) > 0
+        && count(told, 2).saturating_add(count(told, 3)) == 3
+}
+
+const SCENE: Scene<'static> = Scene {
+    settings: b"",
+    goal: Some(GOAL),
+    roles: &[Role::Asker, Role::Clock, Role::Server, Role::Server],
+    look: Look::Woken,
+};
+
 #[test]
-fn whoever_waits_is_woken(rt: HostRuntime) -> Result<(), Fail> {
-    let roles = [Role::Asker, Role::Clock, Role::Server, Role::Server];
-    let (_, told) = run(&rt, rt.alloc(), b"", Some(GOAL), &roles).ok_or(AllocError)?;
-    assert_eq!(rt; count(&told, 0), LINES);
-    assert!(rt; count(&told, 1) > 0);
-    assert_eq!(rt; count(&told, 2).saturating_add(count(&told, 3)), 3);
-    Ok(())
+fn whoever_waits_is_woken(rt: HostRuntime) {
+    assert!(rt; is_right(&rt, rt.alloc(), &SCENE));
 }
