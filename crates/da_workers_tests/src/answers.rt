@@ -84,43 +84,51 @@ const BY_THE_SAME: &[u8] = b"FOUND\t6\t{PLAIN}one";
 
 const BY_ANOTHER: &[u8] = b"FOUND\t6\t{PLAIN}two";
 
-// What comes in over the first link, and the answer to alice's query. The first link is handed back then.
-const SPOILT: [(&[u8], &[u8]); 8] = [
-    (b"FOUND\t6\t{PLAIN}pw\n", b"INTERNAL\t5\tmalformed"),
-    (b"FOUND\t5\n", b"INTERNAL\t5\tmalformed"),
-    (b"PASSED\t5\n", b"INTERNAL\t5\tmalformed"),
-    (b"MISMATCH\t5\n", b"INTERNAL\t5\tmalformed"),
-    (b"INTERNAL\t5\tsaid\n", b"INTERNAL\t5\tmalformed"),
-    (b"\n", b"INTERNAL\t5\tmalformed"),
-    (b"FOU", b"INTERNAL\t5\tdied"),
-    (b"", b"INTERNAL\t5\tdied"),
+// Whether what comes in over the first link is malformed. The link is handed back then.
+fn is_malformed<R: Wait + Abort>(rt: &R, alloc: Global, bytes: &[u8]) -> bool {
+    let five = b"INTERNAL\t5\tmalformed";
+    are_answers(rt, alloc, comes(bytes), five, BY_ANOTHER)
+}
+
+// Whether the first link's worker is dead. The link is handed back then.
+fn is_dead<R: Wait + Abort>(rt: &R, alloc: Global, case: Case<'_>) -> bool {
+    are_answers(rt, alloc, case, b"INTERNAL\t5\tdied", BY_ANOTHER)
+}
+
+// Whether this comes of what comes in over the first link, and the link is kept.
+fn is_kept<R: Wait + Abort>(rt: &R, alloc: Global, bytes: &[u8], five: &[u8]) -> bool {
+    are_answers(rt, alloc, comes(bytes), five, BY_THE_SAME)
+}
+
+const MALFORMED: &[&[u8]] = &[
+    b"FOUND\t6\t{PLAIN}pw\n",
+    b"FOUND\t5\n",
+    b"PASSED\t5\n",
+    b"MISMATCH\t5\n",
+    b"INTERNAL\t5\tsaid\n",
+    b"\n",
 ];
 
-// The same, where the first link is kept.
-const KEPT: [(&[u8], &[u8]); 3] = [
-    (
-        b"FAIL\t5\tdisk\nFOUND\t6\t{PLAIN}one\n",
-        b"INTERNAL\t5\tsaid",
-    ),
-    (b"UNKNOWN\t5\nFOUND\t6\t{PLAIN}one\n", b"UNKNOWN\t5"),
-    (
-        b"FOUND\t5\t{PLAIN}pw\tnodelay\nFOUND\t6\t{PLAIN}one\n",
-        b"FOUND\t5\t{PLAIN}pw\tnodelay",
-    ),
-];
+const DEAD: &[&[u8]] = &[b"FOU", b""];
 
 #[test]
 fn what_is_no_answer_is_malformed_and_the_next_query_has_another_link(rt: HostRuntime) {
-    for (bytes, five) in SPOILT {
-        assert!(rt; are_answers(&rt, rt.alloc(), comes(bytes), five, BY_ANOTHER));
+    for bytes in MALFORMED {
+        assert!(rt; is_malformed(&rt, rt.alloc(), *bytes));
+    }
+    for bytes in DEAD {
+        assert!(rt; is_dead(&rt, rt.alloc(), comes(*bytes)));
     }
 }
 
 #[test]
 fn what_a_worker_says_is_its_answer_and_its_link_is_kept(rt: HostRuntime) {
-    for (bytes, five) in KEPT {
-        assert!(rt; are_answers(&rt, rt.alloc(), comes(bytes), five, BY_THE_SAME));
-    }
+    let said = b"FAIL\t5\tdisk\nFOUND\t6\t{PLAIN}one\n";
+    assert!(rt; is_kept(&rt, rt.alloc(), said, b"INTERNAL\t5\tsaid"));
+    let unknown = b"UNKNOWN\t5\nFOUND\t6\t{PLAIN}one\n";
+    assert!(rt; is_kept(&rt, rt.alloc(), unknown, b"UNKNOWN\t5"));
+    let found = b"FOUND\t5\t{PLAIN}pw\tnodelay\nFOUND\t6\t{PLAIN}one\n";
+    assert!(rt; is_kept(&rt, rt.alloc(), found, b"FOUND\t5\t{PLAIN}pw\tnodelay"));
 }
 
 #[test]
@@ -131,7 +139,7 @@ fn a_worker_that_fails_is_dead_and_the_next_query_has_another_link(rt: HostRunti
             link_fails,
             start_fails: 0,
         };
-        assert!(rt; are_answers(&rt, rt.alloc(), case, b"INTERNAL\t5\tdied", BY_ANOTHER));
+        assert!(rt; is_dead(&rt, rt.alloc(), case));
     }
 }
 
@@ -148,49 +156,35 @@ fn a_worker_that_does_not_start_is_dead_and_the_next_query_starts_one(rt: HostRu
 
 const ANSWER: &[u8] = b"UNKNOWN\t5";
 
+// Whether these bytes and an LF are malformed.
+fn is_malformed_line<R: Wait + Abort>(rt: &R, alloc: Global, bytes: &[u8]) -> bool {
+    let mut line = bytes_of(rt, alloc, bytes);
+    line.push(b'\n').expect(rt, "memory");
+    is_malformed(rt, alloc, &line)
+}
+
 #[test]
 fn no_part_of_an_answer_is_one(rt: HostRuntime) {
     for count in 0..ANSWER.len() {
-        let mut line = bytes_of(&rt, rt.alloc(), &ANSWER[..count]);
-        line.push(b'\n').expect(&rt, "memory");
-        assert!(rt;
-            are_answers(
-                &rt,
-                rt.alloc(),
-                comes(&line),
-                b"INTERNAL\t5\tmalformed",
-                BY_ANOTHER
-            )
-        );
+        assert!(rt; is_malformed_line(&rt, rt.alloc(), &ANSWER[..count]));
     }
 }
 
 #[test]
 fn an_answer_that_is_cut_is_none(rt: HostRuntime) {
     for count in 0..ANSWER.len() + 1 {
-        let part = &ANSWER[..count];
-        assert!(rt;
-            are_answers(
-                &rt,
-                rt.alloc(),
-                comes(part),
-                b"INTERNAL\t5\tdied",
-                BY_ANOTHER
-            )
-        );
+        assert!(rt; is_dead(&rt, rt.alloc(), comes(&ANSWER[..count])));
     }
+}
+
+fn letters_of<R: Abort>(rt: &R, alloc: Global, count: usize) -> Vec<u8> {
+    let mut letters = Vec::new(alloc);
+    letters.resize(count, b'x').expect(rt, "memory");
+    letters
 }
 
 #[test]
 fn a_line_that_is_too_long_is_malformed(rt: HostRuntime) {
-    let letters = [b'x'; 8193];
-    assert!(rt;
-        are_answers(
-            &rt,
-            rt.alloc(),
-            comes(&letters),
-            b"INTERNAL\t5\tmalformed",
-            BY_ANOTHER
-        )
-    );
+    let letters = letters_of(&rt, rt.alloc(), 8193);
+    assert!(rt; is_malformed(&rt, rt.alloc(), &letters));
 }

@@ -117,14 +117,22 @@ fn line_of<R: Abort>(rt: &R, alloc: Global, entry: &Entry) -> Vec<u8> {
     line
 }
 
-/// The history as a script.
-pub fn script_of<R: Abort>(rt: &R, alloc: Global, core: &Core) -> Vec<u8> {
+// The history as a script.
+fn script_of<R: Abort>(rt: &R, alloc: Global, core: &Core) -> Vec<u8> {
     let mut script = Vec::new(alloc);
     for entry in core.entries() {
         let line = line_of(rt, alloc, entry);
         script.extend_from_slice(&line).expect(rt, "memory");
     }
     script
+}
+
+/// Closes the port, and gives its history as a script.
+pub fn script_of_closed<R: Wait + Abort>(rt: &R, alloc: Global, port: Port, seat: Seat) -> Vec<u8>
+    requires { IsOf port seat × IsFree seat }
+{
+    let core = port.close(rt, seat);
+    script_of(rt, alloc, &core)
 }
 
 /// What a client says before a worker begins.
@@ -149,8 +157,7 @@ pub fn worked<R: Wait + Abort, P: Spawner>(
     skip(rt, &port, &mut seat, job.skipped);
     let end = serve(rt, alloc, &port, &mut seat, &settings, spawner, runner, 1);
     assert!(rt; end == LoopEnd::Full);
-    let core = port.close(rt, seat);
-    script_of(rt, alloc, &core)
+    script_of_closed(rt, alloc, port, seat)
 }
 
 /// The last four entries where two queries are taken and answered so.
