@@ -2,7 +2,7 @@
 
 ghost use Rattle.da_turn.specs.Seats.{IsFree, IsOf};
 
-use crate::history::script_of;
+use crate::history::script_of_closed;
 use crate::service::{connect, port_of, say};
 use da_core::Goal;
 use da_fields::Answer;
@@ -73,77 +73,77 @@ fn let_pass<R: Wait + Abort>(
     serve_ticks(rt, port, seat, &clock, &NoPause)
 }
 
-// The history after time passed, if the loop ended so.
-fn pass<R: Wait + Abort>(
-    rt: &R,
-    alloc: Global,
-    settings: &[u8],
+/// What happens before time passes, and then the moments of the clock.
+#[derive(Clone, Copy, Drop)]
+struct Scene<'a> {
+    settings: &'a [u8],
     before: Before,
-    moments: &[u64],
-    end: LoopEnd,
-) -> Option<Vec<u8>> {
+    moments: &'a [u64],
+}
+
+// How the loop ended, and the history after it.
+fn pass<R: Wait + Abort>(rt: &R, alloc: Global, scene: &Scene<'_>) -> (LoopEnd, Vec<u8>) {
     let goal = Goal {
         clients: 1,
         masters: 0,
     };
-    let (port, mut seat) = port_of(rt, alloc, settings, Some(goal));
-    begin(rt, alloc, &port, &mut seat, before);
-    let reported = let_pass(rt, alloc, &port, &mut seat, moments);
-    let core = port.close(rt, seat);
-    if reported != end {
-        return None;
-    }
-    Some(script_of(rt, alloc, &core))
+    let (port, mut seat) = port_of(rt, alloc, scene.settings, Some(goal));
+    begin(rt, alloc, &port, &mut seat, scene.before);
+    let end = let_pass(rt, alloc, &port, &mut seat, scene.moments);
+    (end, script_of_closed(rt, alloc, port, seat))
 }
 
+// Whether the loop ends so, with these entries as the last.
 fn passes<R: Wait + Abort>(
     rt: &R,
     alloc: Global,
-    settings: &[u8],
-    before: Before,
-    moments: &[u64],
+    scene: &Scene<'_>,
     end: LoopEnd,
     last: &[u8],
 ) -> bool {
-    match pass(rt, alloc, settings, before, moments, end) {
-        Some(script) => script.ends_with(last),
-        None => false,
-    }
+    let (reported, script) = pass(rt, alloc, scene);
+    reported == end && script.ends_with(last)
 }
+
+const LATE: Scene<'static> = Scene {
+    settings: b"failure_delay = 0\nquery_limit = 1000\nhistory_entries = 6\n",
+    before: Before::Waits,
+    moments: &[5, 1004, 1005],
+};
+
+const HELD_BACK: Scene<'static> = Scene {
+    settings: b"failure_delay = 2000\nhistory_entries = 7\n",
+    before: Before::Fails,
+    moments: &[5, 2004, 2005],
+};
+
+const TIMED_OUT: Scene<'static> = Scene {
+    settings: b"failure_delay = 2000\nrequest_limit = 1000\nhistory_entries = 6\n",
+    before: Before::Waits,
+    moments: &[5, 1004, 1005],
+};
+
+const GONE: Scene<'static> = Scene {
+    settings: b"history_entries = 2\n",
+    before: Before::Leaves,
+    moments: &[5, 6, 7],
+};
 
 #[test]
 fn time_passes_to_a_full_history_or_the_goal(rt: HostRuntime) {
-    let cases = [
-        (
-            b"failure_delay = 0\nquery_limit = 1000\nhistory_entries = 6\n".as_slice(),
-            Before::Waits,
-            [5, 1004, 1005],
+    let alloc = rt.alloc();
+    let tick = b"5 answer UNKNOWN\t1\n2005 tick\n";
+    let gone = b"5 open client -\n5 gone 1\n";
+    assert!(rt; passes(&rt, alloc, &LATE, LoopEnd::Full, b"5 take\n1005 late 1\n"));
+    assert!(rt; passes(&rt, alloc, &HELD_BACK, LoopEnd::Full, tick));
+    assert!(rt;
+        passes(
+            &rt,
+            alloc,
+            &TIMED_OUT,
             LoopEnd::Full,
-            b"5 take\n1005 late 1\n".as_slice(),
-        ),
-        (
-            b"failure_delay = 2000\nhistory_entries = 7\n",
-            Before::Fails,
-            [5, 2004, 2005],
-            LoopEnd::Full,
-            b"5 answer UNKNOWN\t1\n2005 tick\n",
-        ),
-        (
-            b"failure_delay = 2000\nrequest_limit = 1000\nhistory_entries = 6\n",
-            Before::Waits,
-            [5, 1004, 1005],
-            LoopEnd::Full,
-            b"5 take\n1005 tick\n",
-        ),
-        (
-            b"history_entries = 2\n",
-            Before::Leaves,
-            [5, 6, 7],
-            LoopEnd::Over,
-            b"5 open client -\n5 gone 1\n",
-        ),
-    ];
-    for (settings, before, moments, end, last) in cases {
-        assert!(rt; passes(&rt, rt.alloc(), settings, before, &moments, end, last));
-    }
+            b"5 take\n1005 tick\n"
+        )
+    );
+    assert!(rt; passes(&rt, alloc, &GONE, LoopEnd::Over, gone));
 }

@@ -79,24 +79,29 @@ fn goes_on_so<R: Wait + Abort>(
     ends_so(rt, alloc, &client(&sends), end, INTRODUCED, last)
 }
 
+// The same with so many letters.
+fn goes_on_with<R: Wait + Abort>(
+    rt: &R,
+    alloc: Global,
+    letters: usize,
+    end: ReadEnd,
+    last: &[u8],
+) -> bool {
+    let rest = vec![in alloc; b'x'; letters].expect(rt, "memory");
+    goes_on_so(rt, alloc, &rest, end, last)
+}
+
 #[test]
 fn a_client_is_greeted_and_ends(rt: HostRuntime) {
     let alloc = rt.alloc();
-    let letters = [b'x'; 8193];
-    let cases = [
-        (b"".as_slice(), ReadEnd::Ended, b"5 gone 1\n".as_slice()),
-        (b"AUTH", ReadEnd::Ended, b"5 gone 1\n"),
-        (&letters[..8192], ReadEnd::Ended, b"5 gone 1\n"),
-        (&letters, ReadEnd::Closed, b"5 broken 1\n"),
-        (
-            b"VERSION\t2\t0\nCPID\t8\n",
-            ReadEnd::Closed,
-            b"5 line 1 - VERSION\t2\t0\n",
-        ),
-    ];
-    for (rest, end, last) in cases {
-        assert!(rt; goes_on_so(&rt, alloc, rest, end, last));
-    }
+    let gone = b"5 gone 1\n";
+    let other = b"VERSION\t2\t0\nCPID\t8\n";
+    let refused = b"5 line 1 - VERSION\t2\t0\n";
+    assert!(rt; goes_on_so(&rt, alloc, b"", ReadEnd::Ended, gone));
+    assert!(rt; goes_on_so(&rt, alloc, b"AUTH", ReadEnd::Ended, gone));
+    assert!(rt; goes_on_with(&rt, alloc, 8192, ReadEnd::Ended, gone));
+    assert!(rt; goes_on_with(&rt, alloc, 8193, ReadEnd::Closed, b"5 broken 1\n"));
+    assert!(rt; goes_on_so(&rt, alloc, other, ReadEnd::Closed, refused));
 }
 
 const OTHER_GREETING: &[u8] = b"VERSION\t1\t2\n\

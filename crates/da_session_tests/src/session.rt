@@ -2,7 +2,7 @@
 
 ghost use Rattle.da_turn.specs.Seats.{IsFree, IsOf};
 
-use crate::history::script_of;
+use crate::history::script_of_closed;
 use crate::service::{bytes_of, clock_at, connect, only, port_of};
 use da_outside::{MemSink, MemSource, NoPause, SetRand, SlowSink, SlowSource};
 use da_port::{Port, Seat};
@@ -94,11 +94,11 @@ pub fn run_session<R: Wait + Abort>(rt: &R, alloc: Global, client: &Client<'_>) 
     let (port, mut seat) = port_of(rt, alloc, client.settings, None);
     let read = read_client(rt, alloc, &port, &mut seat, client);
     let write = write_client(rt, &port, &mut seat, &mut sink);
-    let core = port.close(rt, seat);
+    let script = script_of_closed(rt, alloc, port, seat);
     Session {
         read,
         write,
         sink,
-        script: script_of(rt, alloc, &core),
+        script,
     }
 }
