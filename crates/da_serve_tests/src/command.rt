@@ -1,11 +1,11 @@
 // The whole command in memory, over one client that introduces itself and goes, where a call to the outside fails.
 
-use crate::one_client::HELLO;
+use crate::one_client::{HELLO, only};
 use da_outside::{MemFiles, MemListen, MemSink, MemSource, NoPause, SetClock, SetRand, SoundCrew};
 use da_serve::run_serve;
-use std::alloc::{AllocError, Global};
+use std::alloc::Global;
+use std::process::Abort;
 use std::sync::Wait;
-use std::test::Fail;
 use std::thread::Threads;
 
 /// The settings, and which calls fail, counted from 1; 0 for none.
@@ -30,54 +30,59 @@ const SOUND: Outside = Outside {
     output: 0,
 };
 
-fn words(alloc: Global) -> Result<Vec<String>, AllocError> {
+fn words<R: Abort>(rt: &R, alloc: Global) -> Vec<String> {
     let mut words = Vec::new(alloc);
     for word in "serve settings 1 0".split(' ') {
-        words.push(String::from_str(alloc, word)?)?;
+        let word = String::from_str(alloc, word).expect(rt, "memory");
+        words.push(word).expect(rt, "memory");
     }
-    Ok(words)
+    words
 }
 
-fn only(alloc: Global, number: u64) -> Result<Vec<u64>, AllocError> {
-    Vec::from_slice(alloc, &[number])
+fn bytes_of<R: Abort>(rt: &R, alloc: Global, bytes: &[u8]) -> Vec<u8> {
+    Vec::from_slice(alloc, bytes).expect(rt, "memory")
 }
 
-fn files_of(alloc: Global, outside: &Outside) -> Result<MemFiles, AllocError> {
-    let path = Vec::from_slice(alloc, b"settings")?;
-    let settings = Vec::from_slice(alloc, outside.settings)?;
+fn files_of<R: Abort>(rt: &R, alloc: Global, outside: &Outside) -> MemFiles {
+    let file = (
+        bytes_of(rt, alloc, b"settings"),
+        bytes_of(rt, alloc, outside.settings),
+    );
     let mut files = Vec::new(alloc);
-    files.push((path, settings))?;
-    Ok(MemFiles::new(files, only(alloc, outside.files)?))
+    files.push(file).expect(rt, "memory");
+    MemFiles::new(files, only(rt, alloc, outside.files))
 }
 
-fn client_of(alloc: Global, outside: &Outside) -> Result<(MemSource, MemSink), AllocError> {
-    let bytes = Vec::from_slice(alloc, HELLO)?;
-    let source = MemSource::new(bytes, only(alloc, outside.reads)?);
-    Ok((source, MemSink::new(alloc, only(alloc, outside.writes)?)))
+fn client_of<R: Abort>(rt: &R, alloc: Global, outside: &Outside) -> (MemSource, MemSink) {
+    let bytes = bytes_of(rt, alloc, HELLO);
+    let source = MemSource::new(bytes, only(rt, alloc, outside.reads));
+    (source, MemSink::new(alloc, only(rt, alloc, outside.writes)))
 }
 
-fn clients_of(alloc: Global, outside: &Outside) -> Result<MemListen, AllocError> {
+fn clients_of<R: Abort>(rt: &R, alloc: Global, outside: &Outside) -> MemListen {
     let mut conns = Vec::new(alloc);
-    conns.push(client_of(alloc, outside)?)?;
-    Ok(MemListen::new(conns, only(alloc, outside.clients)?))
+    conns
+        .push(client_of(rt, alloc, outside))
+        .expect(rt, "memory");
+    MemListen::new(conns, only(rt, alloc, outside.clients))
 }
 
-fn masters_of(alloc: Global, outside: &Outside) -> Result<MemListen, AllocError> {
-    Ok(MemListen::new(Vec::new(alloc), only(alloc, outside.masters)?))
+fn masters_of<R: Abort>(rt: &R, alloc: Global, outside: &Outside) -> MemListen {
+    MemListen::new(Vec::new(alloc), only(rt, alloc, outside.masters))
 }
 
 // The code of the command's status, and what it writes.
-fn run<R: Threads + Wait + Sync>(
+fn run<R: Threads + Wait + Abort + Sync>(
     rt: &R,
     alloc: Global,
     outside: &Outside,
-) -> Result<(u8, MemSink), AllocError> {
-    let words = words(alloc)?;
-    let mut files = files_of(alloc, outside)?;
-    let mut clients = clients_of(alloc, outside)?;
-    let mut masters = masters_of(alloc, outside)?;
-    let clock = SetClock::new(only(alloc, 5)?);
-    let mut output = MemSink::new(alloc, only(alloc, outside.output)?);
+) -> (u8, MemSink) {
+    let words = words(rt, alloc);
+    let mut files = files_of(rt, alloc, outside);
+    let mut clients = clients_of(rt, alloc, outside);
+    let mut masters = masters_of(rt, alloc, outside);
+    let clock = SetClock::new(only(rt, alloc, 5));
+    let mut output = MemSink::new(alloc, only(rt, alloc, outside.output));
     let status = run_serve(
         rt,
         alloc,
@@ -91,19 +96,19 @@ fn run<R: Threads + Wait + Sync>(
         &NoPause,
         &mut output,
     );
-    Ok((status.code(), output))
+    (status.code(), output)
 }
 
 // Whether the command ends with this code, and writes this.
-fn ends_so<R: Threads + Wait + Sync>(
+fn ends_so<R: Threads + Wait + Abort + Sync>(
     rt: &R,
     alloc: Global,
     outside: &Outside,
     code: u8,
     written: &[u8],
-) -> Result<bool, AllocError> {
-    let (status, output) = run(rt, alloc, outside)?;
-    Ok(status == code && output.bytes() == written)
+) -> bool {
+    let (status, output) = run(rt, alloc, outside);
+    status == code && output.bytes() == written
 }
 
 const WHOLE: &[u8] = b"5 open client -\n\
@@ -179,9 +184,8 @@ const ENDS: [(Outside, u8, &[u8]); 12] = [
 ];
 
 #[test]
-fn each_fault_has_its_end(rt: HostRuntime) -> Result<(), Fail> {
+fn each_fault_has_its_end(rt: HostRuntime) {
     for (outside, code, written) in ENDS {
-        assert!(rt; ends_so(&rt, rt.alloc(), &outside, code, written)?);
+        assert!(rt; ends_so(&rt, rt.alloc(), &outside, code, written));
     }
-    Ok(())
 }

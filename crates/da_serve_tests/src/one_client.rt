@@ -52,7 +52,8 @@ const GOAL: Goal = Goal {
     masters: 0,
 };
 
-fn only<R: Abort>(rt: &R, alloc: Global, number: u64) -> Vec<u64> {
+/// A list of one number.
+pub fn only<R: Abort>(rt: &R, alloc: Global, number: u64) -> Vec<u64> {
     Vec::from_slice(alloc, &[number]).expect(rt, "memory")
 }
 
@@ -113,25 +114,35 @@ fn has_ended<R: Wait>(rt: &R, port: &Port, seat: &mut Seat) -> bool
     port.end(rt, seat).is_some()
 }
 
-/// Serves the client, and prints the history. `None` where it wasn't served to its end.
-pub fn serve<R: Wait + Abort>(rt: &R, alloc: Global, client: &Client<'_>) -> Option<Served> {
-    let settings = da_config::read(alloc, client.settings).expect(rt, "settings");
-    let (port, mut seat) = Port::new(alloc, settings, Some(GOAL)).expect(rt, "memory");
+fn port_of<R: Abort>(rt: &R, alloc: Global, settings: &[u8]) -> (Port, Seat)
+    ensures { IsOf result.0 result.1 × IsFree result.1 }
+{
+    let settings = da_config::read(alloc, settings).expect(rt, "settings");
+    Port::new(alloc, settings, Some(GOAL)).expect(rt, "memory")
+}
+
+fn printer<R: Abort>(rt: &R, alloc: Global, write_fails: u64) -> SlowSink {
+    SlowSink {
+        inner: MemSink::new(alloc, only(rt, alloc, write_fails)),
+        most: 1,
+    }
+}
+
+/// Serves the client to its end, and prints the history.
+pub fn serve<R: Wait + Abort>(rt: &R, alloc: Global, client: &Client<'_>) -> Served {
     let mut sent = MemSink::new(alloc, Vec::new(alloc));
+    let mut printed = printer(rt, alloc, client.write_fails);
+    let (port, mut seat) = port_of(rt, alloc, client.settings);
     let (read, write) = session(rt, alloc, &port, &mut seat, client, &mut sent);
     if !has_ended(rt, &port, &mut seat) {
-        return None;
+        panic!(rt; "the history has no end");
     }
-    let mut printed = SlowSink {
-        inner: MemSink::new(alloc, only(rt, alloc, client.write_fails)),
-        most: 1,
-    };
     let status = finish_serve(rt, alloc, port, seat, &mut printed).code();
-    Some(Served {
+    Served {
         read,
         write,
         status,
         sent,
         printed,
-    })
+    }
 }
