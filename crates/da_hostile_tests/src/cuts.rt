@@ -3,8 +3,8 @@
 use crate::login::{Play, line_ends, played, replies_to};
 use da_app::Status;
 use da_scripts::first_login::SCRIPT;
-use std::alloc::{AllocError, Global};
-use std::test::Fail;
+use std::alloc::Global;
+use std::process::Abort;
 
 // Whether the status is that of a script which ends so, with so many whole lines before.
 fn is_end_of(script: &[u8], lines: u64, status: &Status) -> bool {
@@ -17,22 +17,21 @@ fn is_end_of(script: &[u8], lines: u64, status: &Status) -> bool {
 }
 
 // Whether the play of this script ends as its end says, with the replies to its whole lines.
-fn is_cut_right(alloc: Global, script: &[u8]) -> Result<bool, AllocError> {
+fn is_cut_right<R: Abort>(rt: &R, alloc: Global, script: &[u8]) -> bool {
     let play = Play {
         script,
         most: 0,
         read_fails: 0,
         write_fails: 0,
     };
-    let (status, output) = played(alloc, &play)?;
+    let (status, output) = played(rt, alloc, &play);
     let lines = line_ends(script);
-    Ok(is_end_of(script, lines, &status) && output.inner.bytes() == replies_to(lines))
+    is_end_of(script, lines, &status) && output.inner.bytes() == replies_to(lines)
 }
 
 #[test]
-fn a_script_is_played_up_to_its_last_whole_line(rt: HostRuntime) -> Result<(), Fail> {
+fn a_script_is_played_up_to_its_last_whole_line(rt: HostRuntime) {
     for count in 0..SCRIPT.len() + 1 {
-        assert!(rt; is_cut_right(rt.alloc(), &SCRIPT[..count])?);
+        assert!(rt; is_cut_right(&rt, rt.alloc(), &SCRIPT[..count]));
     }
-    Ok(())
 }

@@ -3,7 +3,8 @@
 use da_app::{Status, run_drive};
 use da_outside::{MemFiles, MemSink, MemSource, SlowSink, SlowSource};
 use da_scripts::first_login::{ASKED, GREETING, REPLIES, SCRIPT};
-use std::alloc::{AllocError, Global};
+use std::alloc::Global;
+use std::process::Abort;
 
 /// How many lines these bytes end.
 pub fn line_ends(bytes: &[u8]) -> u64 {
@@ -36,46 +37,59 @@ pub struct Play<'a> {
     pub write_fails: u64,
 }
 
-fn words_of(alloc: Global) -> Result<Vec<String>, AllocError> {
+fn bytes_of<R: Abort>(rt: &R, alloc: Global, bytes: &[u8]) -> Vec<u8> {
+    Vec::from_slice(alloc, bytes).expect(rt, "memory")
+}
+
+fn words_of<R: Abort>(rt: &R, alloc: Global) -> Vec<String> {
     let mut words = Vec::new(alloc);
-    words.push(String::from_str(alloc, "drive")?)?;
-    words.push(String::from_str(alloc, "settings")?)?;
-    Ok(words)
+    for word in ["drive", "settings"] {
+        let word = String::from_str(alloc, word).expect(rt, "memory");
+        words.push(word).expect(rt, "memory");
+    }
+    words
 }
 
-fn files_of(alloc: Global) -> Result<MemFiles, AllocError> {
-    let path = Vec::from_slice(alloc, b"settings")?;
-    let settings = Vec::from_slice(alloc, b"failure_delay = 0\n")?;
+fn files_of<R: Abort>(rt: &R, alloc: Global) -> MemFiles {
+    let file = (
+        bytes_of(rt, alloc, b"settings"),
+        bytes_of(rt, alloc, b"failure_delay = 0\n"),
+    );
     let mut files = Vec::new(alloc);
-    files.push((path, settings))?;
-    Ok(MemFiles::new(files, Vec::new(alloc)))
+    files.push(file).expect(rt, "memory");
+    MemFiles::new(files, Vec::new(alloc))
 }
 
-fn only(alloc: Global, number: u64) -> Result<Vec<u64>, AllocError> {
-    Vec::from_slice(alloc, &[number])
+fn only<R: Abort>(rt: &R, alloc: Global, number: u64) -> Vec<u64> {
+    Vec::from_slice(alloc, &[number]).expect(rt, "memory")
 }
 
-fn input_of(alloc: Global, play: &Play<'_>) -> Result<SlowSource, AllocError> {
-    let script = Vec::from_slice(alloc, play.script)?;
-    Ok(SlowSource {
-        inner: MemSource::new(script, only(alloc, play.read_fails)?),
+fn input_of<R: Abort>(rt: &R, alloc: Global, play: &Play<'_>) -> SlowSource {
+    let script = bytes_of(rt, alloc, play.script);
+    SlowSource {
+        inner: MemSource::new(script, only(rt, alloc, play.read_fails)),
         most: play.most,
-    })
+    }
 }
 
-fn output_of(alloc: Global, play: &Play<'_>) -> Result<SlowSink, AllocError> {
-    Ok(SlowSink {
-        inner: MemSink::new(alloc, only(alloc, play.write_fails)?),
+fn output_of<R: Abort>(rt: &R, alloc: Global, play: &Play<'_>) -> SlowSink {
+    SlowSink {
+        inner: MemSink::new(alloc, only(rt, alloc, play.write_fails)),
         most: play.most,
-    })
+    }
 }
 
 /// Plays it, and tells how that ended and what was written.
-pub fn played(alloc: Global, play: &Play<'_>) -> Result<(Status, SlowSink), AllocError> {
-    let words = words_of(alloc)?;
-    let mut files = files_of(alloc)?;
-    let mut input = input_of(alloc, play)?;
-    let mut output = output_of(alloc, play)?;
+pub fn played<R: Abort>(rt: &R, alloc: Global, play: &Play<'_>) -> (Status, SlowSink) {
+    let words = words_of(rt, alloc);
+    let mut files = files_of(rt, alloc);
+    let mut input = input_of(rt, alloc, play);
+    let mut output = output_of(rt, alloc, play);
     let status = run_drive(alloc, &words, &mut files, &mut input, &mut output);
-    Ok((status, output))
+    (status, output)
+}
+
+/// Whether the words of a status are these.
+pub fn is_told<R: Abort>(rt: &R, alloc: Global, status: &Status, wanted: &[u8]) -> bool {
+    status.words(alloc).expect(rt, "memory").as_slice() == wanted
 }
