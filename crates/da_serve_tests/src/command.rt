@@ -32,7 +32,7 @@ const SOUND: Outside = Outside {
 
 fn words<R: Abort>(rt: &R, alloc: Global) -> Vec<String> {
     let mut words = Vec::new(alloc);
-    for word in "serve settings 1 0".split(' ') {
+    for word in ["serve", "settings", "1", "0"] {
         let word = String::from_str(alloc, word).expect(rt, "memory");
         words.push(word).expect(rt, "memory");
     }
