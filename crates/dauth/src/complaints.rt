@@ -1,10 +1,10 @@
 // What the program says on standard error.
 
-use crate::shown::shown;
 use crate::usage::usage_text;
 use da_app::Status;
 use da_outside::{Failed, Sink};
 use da_stream::write_all;
+use da_unix::shown;
 use std::alloc::{AllocError, Global};
 
 /// Says why the program ended.

@@ -2,51 +2,19 @@
 //! and ends with the code of the command's status, whose words stand on standard error.
 #![tactic(auto)]
 
-mod adapters;
-mod children;
-mod clock;
 mod complaints;
 #[cfg(test)]
-mod file_workers;
-mod limits;
-mod lines;
-mod patient;
-#[cfg(test)]
-mod peers;
-mod programs;
-mod query_limit;
-mod random;
-#[cfg(test)]
-mod service_tests;
-mod shown;
-mod sockets;
-mod staff;
-#[cfg(test)]
 mod tests;
-#[cfg(test)]
-mod tests_of_children;
-#[cfg(test)]
-mod tests_of_commands;
-#[cfg(test)]
-mod tests_of_reads;
-#[cfg(test)]
-mod tests_of_sockets;
 mod usage;
-mod workers;
 
 ghost use Rattle.std.specs.Prelude.{◌≡◌};
 ghost use Rattle.std.specs.Process.{exit_status};
 ghost use Rattle.da_command.specs.Statuses.{status_code};
 
-use adapters::{Disk, Input, Output};
-use clock::{Nap, Now};
 use complaints::{complain, tell};
 use da_app::{Command, Status, command, run_check, run_drive, run_pw, run_serve, run_worker};
 use da_outside::{Sink, Source};
-use query_limit::{QueryLimit, SettingsFiles};
-use random::Random;
-use sockets::Socket;
-use staff::Staff;
+use da_unix::{Disk, Input, Nap, Now, Output, QueryLimit, Random, SettingsFiles, Socket, Staff};
 use std::alloc::Global;
 use std::os::fd::AsRawFd;
 use std::process::ExitCode;

@@ -1,104 +1,117 @@
-// Programs and workers of the system, and how the program is used.
+// Each command by its words, with the code that the program ends with, and how the program is used.
 
-use crate::children::Starts;
 use crate::complaints::tell;
-use crate::programs::Programs;
-use crate::workers::Workers;
+use crate::run;
 use da_app::Status;
-use da_child::check;
-use da_fields::{Answer, Why};
-use da_outside::{Link, MemSink, Spawner};
+use da_outside::{MemSink, MemSource};
 use std::alloc::{AllocError, Global};
 use std::test::Fail;
 use std::{fs, io};
 
-// So many milliseconds may a program and a worker take.
-const LIMIT: u64 = 10_000;
+/// A command line, its input, the numbers of the read and of the write that fail, its code, and what it writes.
+type Case = (&'static str, &'static [u8], u64, u64, u8, &'static [u8]);
 
-// A program that sets the user's home, and then runs its arguments.
-const SETS_HOME: &[u8] =
-    b"cat <&3 >/dev/null\nHOME=/home/alice\nexport HOME\nexec /bin/sh \"$@\"\n";
+const GREETING: &[u8] = b"1 > 1 VERSION\t1\t2\n\
+1 > 1 MECH\tPLAIN\tplaintext\n\
+1 > 1 SPID\t1\n\
+1 > 1 CUID\t1\n\
+1 > 1 COOKIE\t00000000000000000000000000000000\n\
+1 > 1 DONE\n";
 
-fn answer_of<R: Starts>(
-    alloc: Global,
-    programs: &mut Programs<'_, R>,
-    program: &[u8],
-) -> Result<Answer, AllocError> {
-    check(alloc, programs, program, b"alice", b"pw")
+const OPEN: &[u8] = b"1000 open client -\n";
+
+const TWICE: &[u8] = b"1000 open client -\n1001 open client -\n";
+
+const CUT: &[u8] = b"1000 open client -\n1001 ti";
+
+const QUERY: &[u8] = b"PASS\t1\t1\talice\n";
+
+const CASES: [Case; 16] = [
+    ("", b"", 0, 0, 64, b""),
+    ("sing settings", b"", 0, 0, 64, b""),
+    ("check settings", b"", 0, 0, 0, b"ok 1 1\n"),
+    ("check settings", b"", 0, 1, 74, b""),
+    ("check missing", b"", 0, 0, 66, b""),
+    ("check bad", b"", 0, 0, 78, b""),
+    ("worker settings", QUERY, 0, 0, 0, b"FOUND\t1\t{PLAIN}pw\n"),
+    ("worker settings", b"PASS\n", 0, 0, 65, b""),
+    ("worker settings", QUERY, 1, 0, 74, b""),
+    (
+        "pw SHA",
+        b"abc\n",
+        0,
+        0,
+        0,
+        b"{SHA}qZk+NkcGgWq6PiVxeFDCbJzQ2J0=\n",
+    ),
+    ("pw SHA", b"abc", 0, 0, 65, b""),
+    ("pw CRYPT", b"abc\n", 0, 0, 64, b""),
+    ("drive settings", OPEN, 0, 0, 0, GREETING),
+    ("drive settings", CUT, 0, 0, 65, GREETING),
+    ("drive settings", OPEN, 1, 0, 74, b""),
+    ("drive full", TWICE, 0, 0, 75, GREETING),
+];
+
+fn write_files(rt: &HostRuntime) -> io::Result<()> {
+    let settings = "passdb = [{driver = \"passwd-file\", args = \"users\"}]\n\
+userdb = [{driver = \"passwd-file\", args = \"users\"}]\n";
+    fs::write(rt, "settings", settings)?;
+    fs::write(rt, "users", "alice:{PLAIN}pw\n")?;
+    fs::write(rt, "full", "history_entries = 1\n")?;
+    fs::write(rt, "bad", "\"a\\u001B[2J\" = 1\n")
 }
 
-// Whether a login passed with this one field.
-fn has_passed_with(answer: &Answer, key: &[u8], value: &[u8]) -> bool {
-    match answer {
-        Answer::Passed { fields } => fields.pairs().len() == 1 && fields.get(key) == Some(value),
-        _ => false,
+fn words_of(alloc: Global, line: &str) -> Result<Vec<String>, AllocError> {
+    let mut words = Vec::new(alloc);
+    for word in line.split(' ') {
+        words.push(String::from_str(alloc, word)?)?;
     }
+    Ok(words)
+}
+
+fn ended(rt: &HostRuntime, case: &Case) -> Result<(Status, MemSink), Fail> {
+    let alloc = rt.alloc();
+    let words = words_of(alloc, case.0)?;
+    let bytes = Vec::from_slice(alloc, case.1)?;
+    let mut input = MemSource::new(bytes, vec![in alloc; case.2]?);
+    let mut output = MemSink::new(alloc, vec![in alloc; case.3]?);
+    let status = run(rt, alloc, &words, &mut input, &mut output)?;
+    Ok((status, output))
+}
+
+fn is_right(rt: &HostRuntime, case: &Case) -> Result<bool, Fail> {
+    let (status, output) = ended(rt, case)?;
+    Ok(status.code() == case.4 && output.bytes() == case.5)
 }
 
 #[test]
-fn a_program_says_whether_the_password_is_right(rt: HostRuntime) -> Result<(), Fail> {
-    let alloc = rt.alloc();
-    fs::write(&rt, "sh", SETS_HOME)?;
-    let mut programs = Programs::new(&rt, LIMIT);
-    // Its option is none of `cat`.
-    let wrong = answer_of(alloc, &mut programs, b"cat")?;
-    assert!(rt; matches!(wrong, Answer::Mismatch));
-    let silent = answer_of(alloc, &mut programs, b"echo")?;
-    assert!(rt; matches!(silent, Answer::Internal(Why::Malformed)));
-    let right = answer_of(alloc, &mut programs, b"sh")?;
-    fs::remove_file(&rt, "sh")?;
-    assert!(rt; has_passed_with(&right, b"userdb_home", b"/home/alice"));
+fn each_command_ends_with_its_code(rt: HostRuntime) -> Result<(), Fail> {
+    write_files(&rt)?;
+    for case in CASES {
+        assert!(rt; is_right(&rt, &case)?);
+    }
     Ok(())
 }
 
-// How many descriptors this process has open, and the children that it hasn't waited for.
-fn left_open(rt: &HostRuntime) -> io::Result<(usize, String)> {
-    let descriptors = fs::read_dir(rt, "/proc/self/fd")?.count();
-    let children = fs::read_to_string(rt, "/proc/thread-self/children")?;
-    Ok((descriptors, children))
-}
-
-#[test]
-fn a_thousand_programs_leave_nothing(rt: HostRuntime) -> Result<(), Fail> {
-    let before = left_open(&rt)?;
-    let mut programs = Programs::new(&rt, LIMIT);
-    for _ in 0..1000 {
-        let silent = answer_of(rt.alloc(), &mut programs, b"true")?;
-        assert!(rt; matches!(silent, Answer::Internal(Why::Malformed)));
-    }
-    let after = left_open(&rt)?;
-    assert_eq!(rt; after.0, before.0);
-    assert_eq!(rt; after.1.as_str(), "");
-    Ok(())
-}
-
-// Whether a worker that the command starts answers this line with the same line.
-fn is_repeated<R: Starts>(
-    alloc: Global,
-    workers: &mut Workers<'_, R>,
-    command: &[Vec<u8>],
-    line: &[u8],
-) -> bool {
-    let Ok(mut link) = workers.start(alloc, command) else {
-        return false;
-    };
-    let sent = link.send(line);
-    let answer = link.receive(alloc);
-    workers.finish(link);
-    let Ok(answer) = answer else {
-        return false;
-    };
-    sent.is_ok() && answer.as_slice() == line
-}
-
-#[test]
-fn a_worker_is_sent_a_line_and_answers(rt: HostRuntime) -> Result<(), Fail> {
+// What is told of the end of this command line.
+fn complaint(rt: &HostRuntime, line: &'static str) -> Result<MemSink, Fail> {
     let alloc = rt.alloc();
-    let mut workers = Workers::new(&rt, LIMIT);
-    let cat = vec![in alloc; Vec::from_slice(alloc, b"cat")?]?;
-    let query = b"PASS\t1\t1\talice".as_slice();
-    assert!(rt; is_repeated(alloc, &mut workers, &cat, query));
-    assert!(rt; !is_repeated(alloc, &mut workers, &[], query));
+    let (status, _) = ended(rt, &(line, b"", 0, 0, 0, b""))?;
+    let mut told = MemSink::new(alloc, Vec::new(alloc));
+    tell(alloc, &mut told, &status);
+    Ok(told)
+}
+
+#[test]
+fn what_is_told_has_no_control_bytes(rt: HostRuntime) -> Result<(), Fail> {
+    write_files(&rt)?;
+    let told = complaint(&rt, "check bad")?;
+    assert_eq!(rt;
+        told.bytes(),
+        b"dauth: bad settings at a?[2J: unknown\n".as_slice()
+    );
+    let told = complaint(&rt, "check settings")?;
+    assert_eq!(rt; told.bytes(), b"".as_slice());
     Ok(())
 }
 
