@@ -1,4 +1,4 @@
--- What becomes of a query that is answered: its request hears of it, or it is lost and the same is asked again.
+-- What becomes of a query that is answered: its request has the answer, or it is lost and the same is asked again.
 use Rattle.std.proofs.Common.{◌≡◌, ◌⊎◌, inl, inr, refl, sym, ◌∙◌, ap, ap₂, subst, Option, Some, None, List, [], ◌∷◌, ◌++◌, ℕ, zero, suc, ◌<◌, Bool, true, false, cond, not, ◌&&◌, length, map, is_some, ◌==◌, true≢false, arith, eq-eqb}
 use Rattle.std.proofs.lemmas.Bool.{eqb-true}
 use Rattle.std.proofs.lemmas.Option.{none-some, same_Some}

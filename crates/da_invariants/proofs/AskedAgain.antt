@@ -138,11 +138,11 @@ module _ (settings : Settings) (moment : ℕ) (g : List Entry) (k : ℕ) where
         ∙ ap (λ (b : Bool). cond b (asks_again a.request answered) (answers_request a.request a.question (Internal Died) answered)) lost
         ∙ ap (λ (b : Bool). cond b (continuing a.request answered) (continuing_none answered)) u
 
-    abbrev repeated : Request → QueryRow
-    repeated r = record { request = a.request; question = a.question; password = query_password settings r a.question.kind; taken = None; answer = None; comparisons = [] }
+    abbrev repeat_of : Request → QueryRow
+    repeat_of r = record { request = a.request; question = a.question; password = query_password settings r a.question.kind; taken = None; answer = None; comparisons = [] }
 
     asks_it : is_lost before.queries k a (Internal Died) ≡ true → passes_option is_undecided (nth before.requests a.request) ≡ true → (r : Request) → nth before.requests a.request ≡ Some r → request_stage settings r ≡ Asks a.question →
-        final.queries ≡ changed_nth change before.queries k ++ repeated r ∷ []
+        final.queries ≡ changed_nth change before.queries k ++ repeat_of r ∷ []
     unfolding after after_stage
     asks_it lost u r at stage =
         told_keeps (after_continued settings moment [] (after_input settings moment told before))
@@ -151,11 +151,11 @@ module _ (settings : Settings) (moment : ℕ) (g : List Entry) (k : ℕ) where
         ∙ ap (λ (s : Stage). (follows_from settings moment a.request r s answered).queries) stage
 
     -- the query of the next number
-    repeat_there : (r : Request) → final.queries ≡ changed_nth change before.queries k ++ repeated r ∷ [] → nth final.queries (length origin.queries + 1) ≡ Some (repeated r)
+    repeat_there : (r : Request) → final.queries ≡ changed_nth change before.queries k ++ repeat_of r ∷ [] → nth final.queries (length origin.queries + 1) ≡ Some (repeat_of r)
     repeat_there r all =
         let number : length (changed_nth change before.queries k) ≡ length origin.queries = changed-length change before.queries k ∙ ap (λ (qs : List QueryRow). length qs) same_queries in
         let next : length origin.queries + 1 ≡ suc (length (changed_nth change before.queries k)) = omega (arith, number) in
-        ap (λ (qs : List QueryRow). nth qs (length origin.queries + 1)) all ∙ ap (nth (changed_nth change before.queries k ++ repeated r ∷ [])) next ∙ nth-last (changed_nth change before.queries k) (repeated r)
+        ap (λ (qs : List QueryRow). nth qs (length origin.queries + 1)) all ∙ ap (nth (changed_nth change before.queries k ++ repeat_of r ∷ [])) next ∙ nth-last (changed_nth change before.queries k) (repeat_of r)
 
   abbrev Repeats : QueryRow → Type 0
   Repeats b = (c : QueryRow) × (nth final.queries (length origin.queries + 1) ≡ Some c) × (c.request ≡ b.request) × (c.question ≡ b.question) × (c.taken ≡ None)
@@ -174,7 +174,7 @@ module _ (settings : Settings) (moment : ℕ) (g : List Entry) (k : ℕ) where
 
           of_asked : IsAsked settings before.requests before.queries k a → Repeats b
           of_asked i = (
-            repeated a is runs i.request,
+            repeat_of a is runs i.request,
             repeat_there a is runs i.request (asks_it a is runs (lost_by_it a is runs lost) (ap (passes_option is_undecided) i.is_there ∙ open_before) i.request i.is_there (asking (request_stage settings i.request) a.question i.asks)),
             sym stood.request,
             sym stood.question,

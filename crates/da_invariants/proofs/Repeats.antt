@@ -127,8 +127,8 @@ module _ (settings : Settings) (moment : ℕ) (before : Tables) (entered : Input
                 here = let r : (r : Request) × (nth before.requests a.request ≡ Some r) = p.requests query a is in own r.0 s r.1 there_a u
 
     -- a query that is lost, and whose request continues, is still what that asks
-    lost_settled : is_lost before.queries query a answer ≡ true → (r s : Request) → nth before.requests a.request ≡ Some r → nth before.requests a.request ≡ Some s → is_undecided s ≡ true → IsAccounted settings now (Some a.request) query (answered a) s
-    lost_settled lost r s was at u = inr (
+    lost_accounted : is_lost before.queries query a answer ≡ true → (r s : Request) → nth before.requests a.request ≡ Some r → nth before.requests a.request ≡ Some s → is_undecided s ≡ true → IsAccounted settings now (Some a.request) query (answered a) s
+    lost_accounted lost r s was at u = inr (
       lost_once_told answered (λ b. record { request = refl; question = refl }) before.queries query a (answer, moment) is refl ∙ lost,
       inr (record { continues = refl; asks = subst (λ (x : Request). question_in (request_stage settings x) ≡ Some a.question) (same_Some row.request s (sym row.is_there ∙ at)) row.asks }),
     )
@@ -137,15 +137,15 @@ module _ (settings : Settings) (moment : ℕ) (before : Tables) (entered : Input
         row = asked query a is unanswered
 
     -- the request has the answer of one that isn't lost
-    heard_settled : (o : Option ℕ) (r s : Request) → nth before.requests a.request ≡ Some r → nth (changed_nth (with_answer a.question.db answer) before.requests a.request) a.request ≡ Some s → is_undecided s ≡ true → IsAccounted settings now o query (answered a) s
-    heard_settled o r s was at u = inl (subst (λ (x : Request). has_answer a.question.db x ≡ true)
+    used_accounted : (o : Option ℕ) (r s : Request) → nth before.requests a.request ≡ Some r → nth (changed_nth (with_answer a.question.db answer) before.requests a.request) a.request ≡ Some s → is_undecided s ≡ true → IsAccounted settings now o query (answered a) s
+    used_accounted o r s was at u = inl (subst (λ (x : Request). has_answer a.question.db x ≡ true)
         (same_Some (with_answer a.question.db answer r) s (sym (ap (option_map (with_answer a.question.db answer)) was) ∙ sym (nth-changed (with_answer a.question.db answer) before.requests a.request) ∙ at))
         (last_answer r.answers a.question.db a.question.db answer refl))
 
     -- who is decided, cancelled or timed out needs no answer
-    late_settled : (f : Request → Request) → ((r : Request) → KeepsAnswers r (f r)) → (o : Option ℕ) → passes_option is_undecided (nth before.requests a.request) ≡ false → (r s : Request) → nth before.requests a.request ≡ Some r →
+    late_accounted : (f : Request → Request) → ((r : Request) → KeepsAnswers r (f r)) → (o : Option ℕ) → passes_option is_undecided (nth before.requests a.request) ≡ false → (r s : Request) → nth before.requests a.request ≡ Some r →
         nth (changed_nth f before.requests a.request) a.request ≡ Some s → is_undecided s ≡ true → IsAccounted settings now o query (answered a) s
-    late_settled f h o quiet r s was at u = absurd (true≢false (sym before_u ∙ sym (ap (passes_option is_undecided) was) ∙ quiet))
+    late_accounted f h o quiet r s was at u = absurd (true≢false (sym before_u ∙ sym (ap (passes_option is_undecided) was) ∙ quiet))
       where
         s_is : f r ≡ s
         s_is = same_Some (f r) s (sym (ap (option_map f) was) ∙ sym (nth-changed f before.requests a.request) ∙ at)
@@ -162,18 +162,18 @@ module _ (settings : Settings) (moment : ℕ) (before : Tables) (entered : Input
     texts = λ conn id random text m r is w p. requests_kept settings before.requests _ before.queries _ (changed_keep_answers (with_text text) (text_keeps_answers text) before.requests _) p;
     makes = λ conn id random body m p. requests_kept settings before.requests _ before.queries _ (longer_keep_answers before.requests (new_request moment conn id random body ∷ [])) p;
     loses = λ query given a g is run lost u p.
-        answer_kept query (recorded_answer a.question.kind given) a is run before.requests (Some a.request) (same_keep_answers before.requests) (lost_settled query (recorded_answer a.question.kind given) a is run lost) p;
+        answer_kept query (recorded_answer a.question.kind given) a is run before.requests (Some a.request) (same_keep_answers before.requests) (lost_accounted query (recorded_answer a.question.kind given) a is run lost) p;
     loses_late = λ query given a g is run lost u p.
         answer_kept query (recorded_answer a.question.kind given) a is run before.requests None (same_keep_answers before.requests)
         (λ r s was at v. absurd (true≢false (sym v ∙ sym (ap (passes_option is_undecided) at) ∙ u))) p;
     answers = λ query given a g is run counts u p.
         answer_kept query (recorded_answer a.question.kind given) a is run (changed_nth (with_answer a.question.db (recorded_answer a.question.kind given)) before.requests a.request) (Some a.request)
         (changed_keep_answers (with_answer a.question.db (recorded_answer a.question.kind given)) (answer_keeps_answers a.question.db (recorded_answer a.question.kind given)) before.requests a.request)
-        (heard_settled query (recorded_answer a.question.kind given) a is run (Some a.request)) p;
+        (used_accounted query (recorded_answer a.question.kind given) a is run (Some a.request)) p;
     lates = λ query given a g is run counts u p.
         answer_kept query (recorded_answer a.question.kind given) a is run (changed_nth (with_late_answer a.question.db (recorded_answer a.question.kind given)) before.requests a.request) None
         (changed_keep_answers (with_late_answer a.question.db (recorded_answer a.question.kind given)) (late_keeps_answers a.question.db (recorded_answer a.question.kind given)) before.requests a.request)
-        (late_settled query (recorded_answer a.question.kind given) a is run (with_late_answer a.question.db (recorded_answer a.question.kind given)) (late_keeps_answers a.question.db (recorded_answer a.question.kind given)) None u) p;
+        (late_accounted query (recorded_answer a.question.kind given) a is run (with_late_answer a.question.db (recorded_answer a.question.kind given)) (late_keeps_answers a.question.db (recorded_answer a.question.kind given)) None u) p;
   }
 
   -- ---- hits, and what follows
@@ -249,8 +249,8 @@ module _ (settings : Settings) (moment : ℕ) (before : Tables) (entered : Input
     -- a new query asks the same as each query of its request to its database before it, which is lost
     module _ (tables : Tables) (n : ℕ) (r : Request) (new : QueryRow) (is : nth tables.requests n ≡ Some r) (u : is_undecided r ≡ true) (of_it : new.request ≡ n) (asks : question_in (request_stage settings r) ≡ Some new.question) (untold : new.answer ≡ None)
         (none : NoneOf tables.queries (Some n)) (p : Repeated settings tables (Some n)) where
-      not_heard : (db : ℕ) → new.question.db ≡ db → has_answer db r ≡ true → ⊥
-      not_heard db d h = true≢false (sym h ∙ ap is_some (subst (λ (x : ℕ). answer_from x r.answers ≡ None) d (asks_new settings r new.question asks)))
+      not_used : (db : ℕ) → new.question.db ≡ db → has_answer db r ≡ true → ⊥
+      not_used db d h = true≢false (sym h ∙ ap is_some (subst (λ (x : ℕ). answer_from x r.answers ≡ None) d (asks_new settings r new.question asks)))
 
       there : (a : QueryRow) → new.request ≡ a.request → nth tables.requests a.request ≡ Some r
       there a d = ap (nth tables.requests) (sym d ∙ of_it) ∙ is
@@ -267,7 +267,7 @@ module _ (settings : Settings) (moment : ℕ) (before : Tables) (entered : Input
       not_again k a at d e l g = go (told g.number g.row g.is_there (d ∙ sym g.request))
         where
           by_account : IsAccounted settings tables.queries (Some n) g.number g.row r → ⊥
-          by_account (inl h) = not_heard g.row.question.db (e ∙ sym g.db) h
+          by_account (inl h) = not_used g.row.question.db (e ∙ sym g.db) h
           by_account (inr (lost, x)) =
               let equal : k ≡ g.number = one_is_lost tables.queries k g.number a g.row at g.is_there g.request g.db l lost in
               let later : k < g.number = g.is_later in
@@ -280,7 +280,7 @@ module _ (settings : Settings) (moment : ℕ) (before : Tables) (entered : Input
       repeats_new k a at d e = go (told k a at d)
         where
           by_account : IsAccounted settings tables.queries (Some n) k a r → (is_lost_in tables.queries k ≡ true) × (new.question ≡ a.question)
-          by_account (inl h) = absurd (not_heard a.question.db e h)
+          by_account (inl h) = absurd (not_used a.question.db e h)
           by_account (inr (l, inl g)) = absurd (not_again k a at d e l g)
           by_account (inr (l, inr c)) = (l, same_Some new.question a.question (sym asks ∙ c.asks))
 
