@@ -8,9 +8,8 @@ ghost use Rattle.da_tabline.specs.Spelling.{more_fields};
 ghost use Rattle.da_pop3.specs.OwnLines.{version_line, pid_line, auth_line, auth_line_with, cont_line, cancel_line, request_line, plain_message};
 ghost use Rattle.da_pop3.specs.Table.{sasl_text};
 
-use base64::engine::general_purpose::STANDARD;
 use da_fields::Text;
-use da_tabline::{escape, push_field};
+use da_tabline::{escape, push_field, to_base64};
 use std::alloc::{AllocError, Global};
 
 // A line that begins with a word and a number.
@@ -91,7 +90,7 @@ pub(crate) fn plain_text(alloc: Global, name: &[u8], password: &[u8]) -> Result<
     ensures { IfOk result (λ text. text.items ≡ to_base64 (plain_message name.now password.now)) }
 {
     let message = plain_message(alloc, name, password)?;
-    Ok(STANDARD.encode(alloc, &message)?.into_bytes())
+    to_base64(alloc, &message)
 }
 
 fn plain_message(alloc: Global, name: &[u8], password: &[u8]) -> Result<Vec<u8>, AllocError>

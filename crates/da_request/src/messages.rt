@@ -4,11 +4,10 @@ ghost use Rattle.std.specs.Prelude.{◌≡◌, ◌∷◌, ◌++◌, IfOk, Some, 
 ghost use Rattle.da_base.specs.Words.{from_base64};
 ghost use Rattle.da_request.specs.Attempts.{said, decoded, initial_response};
 
-use base64::DecodeAllocError;
-use base64::engine::general_purpose::STANDARD;
 use da_fields::Text;
 use da_msgs::Mech;
 use da_settings::Texts;
+use da_tabline::from_base64;
 use std::alloc::{AllocError, Global};
 
 /// The client's messages: that of `resp=`, and then those of its `CONT` lines. `None` exactly where they are bad as a
@@ -86,9 +85,8 @@ fn decoded_after(
 fn decoded_text(alloc: Global, text: &[u8]) -> Result<Option<Text>, AllocError>
     ensures { IfOk result (λ bytes. bytes ≡ from_base64 text.now) }
 {
-    match STANDARD.decode(alloc, text) {
-        Ok(bytes) => Ok(Some(Text::new(bytes))),
-        Err(DecodeAllocError::DecodeError(_)) => Ok(None),
-        Err(DecodeAllocError::OutOfMemory) => Err(AllocError),
+    match from_base64(alloc, text)? {
+        Some(bytes) => Ok(Some(Text::new(bytes))),
+        None => Ok(None),
     }
 }

@@ -1,6 +1,5 @@
 // The text of a password stored anew.
-ghost use Rattle.std.specs.Prelude.{◌≡◌, ◌++◌, IfOk, OnOk, string_bytes};
-ghost use Rattle.da_base.specs.Words.{to_base64};
+ghost use Rattle.std.specs.Prelude.{◌≡◌, ◌++◌, IfOk, string_bytes};
 ghost use Rattle.da_schemes.specs.Scheme.{kind_of};
 ghost use Rattle.da_schemes.specs.Stored.{digest_by};
 ghost use Rattle.da_schemes.specs.Made.{keys_text, digest_text, text_made, made};
@@ -8,7 +7,7 @@ ghost use Rattle.da_schemes.specs.Made.{keys_text, digest_text, text_made, made}
 use crate::digest::{md5_of, sha1_of, sha256_of, sha512_of};
 use crate::keys::{ScramKeys, keys_of};
 use crate::scheme::{Kind, Scheme};
-use base64::engine::general_purpose::STANDARD;
+use da_tabline::{push_base64, to_base64};
 use std::alloc::{AllocError, Global};
 
 /// The rounds of new keys.
@@ -53,19 +52,10 @@ fn salted_digest(
 fn written(alloc: Global, scheme: Scheme, bytes: &[u8]) -> Result<Vec<u8>, AllocError>
     ensures { IfOk result (λ v. v.items ≡ digest_text scheme bytes.now) }
 {
-    let text = match scheme {
-        Scheme::PlainMd5 => hex::encode(alloc, bytes)?,
-        _ => STANDARD.encode(alloc, bytes)?,
-    };
-    Ok(text.into_bytes())
-}
-
-// Appends the bytes in base64.
-fn push_base64(alloc: Global, text: &mut Vec<u8>, bytes: &[u8]) -> Result<(), AllocError>
-    ensures { OnOk result (text.new.items ≡ text.old.items ++ to_base64 bytes.now) }
-{
-    let encoded = STANDARD.encode(alloc, bytes)?;
-    text.extend_from_slice(encoded.as_bytes())
+    match scheme {
+        Scheme::PlainMd5 => Ok(hex::encode(alloc, bytes)?.into_bytes()),
+        _ => to_base64(alloc, bytes),
+    }
 }
 
 // The text of keys of 4,096 rounds.
@@ -73,11 +63,11 @@ fn written_keys(alloc: Global, keys: &ScramKeys) -> Result<Vec<u8>, AllocError>
     ensures { IfOk result (λ v. v.items ≡ keys_text keys.now) }
 {
     let mut text = Vec::from_slice(alloc, b"4096,")?;
-    push_base64(alloc, &mut text, keys.salt.bytes())?;
+    push_base64(&mut text, alloc, keys.salt.bytes())?;
     text.extend_from_slice(b",")?;
-    push_base64(alloc, &mut text, &keys.stored)?;
+    push_base64(&mut text, alloc, &keys.stored)?;
     text.extend_from_slice(b",")?;
-    push_base64(alloc, &mut text, &keys.server)?;
+    push_base64(&mut text, alloc, &keys.server)?;
     Ok(text)
 }
 

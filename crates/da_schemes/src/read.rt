@@ -8,9 +8,7 @@ use crate::keys::ScramKeys;
 use crate::octets::Octets;
 use crate::scheme::{Encoding, Kind, Label};
 use crate::secret::Secret;
-use base64::DecodeAllocError;
-use base64::engine::general_purpose::STANDARD;
-use da_tabline::{decimal_number, four_pieces};
+use da_tabline::{decimal_number, four_pieces, from_base64};
 use hex::FromHexError;
 use std::alloc::Global;
 
@@ -21,10 +19,9 @@ fn decode(alloc: Global, encoding: Encoding, text: &[u8]) -> Result<Octets, Sche
     ensures { IsRead (decoded_by encoding text.now) result }
 {
     match encoding {
-        Encoding::Base64 => match STANDARD.decode(alloc, text) {
-            Ok(bytes) => Ok(Octets::new(bytes)),
-            Err(DecodeAllocError::DecodeError(_)) => Err(SchemeFault::BadText),
-            Err(DecodeAllocError::OutOfMemory) => Err(SchemeFault::NoMemory),
+        Encoding::Base64 => match from_base64(alloc, text)? {
+            Some(bytes) => Ok(Octets::new(bytes)),
+            None => Err(SchemeFault::BadText),
         },
         Encoding::Hex => match hex::decode(alloc, text) {
             Ok(bytes) => Ok(Octets::new(bytes)),

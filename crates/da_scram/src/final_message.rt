@@ -7,9 +7,7 @@ ghost use Rattle.da_scram.specs.Reading.{parts_after, parts_read, proof_read, fi
 ghost use Rattle.da_scram.specs.Cuts.{HasProof, ReadsFinal};
 
 use crate::first_message::is_extension;
-use base64::DecodeAllocError;
-use base64::engine::general_purpose::STANDARD;
-use da_tabline::{split_at_byte, strip_front};
+use da_tabline::{from_base64, push_base64, split_at_byte, strip_front};
 use std::alloc::{AllocError, Global};
 
 /// A client's last message.
@@ -82,7 +80,7 @@ fn final_front(
     ensures { IfOk result (λ front. front.items ≡ final_front header.now nonce.now server_nonce.now) }
 {
     let mut front = Vec::from_slice(alloc, b"c=")?;
-    front.extend_from_slice(STANDARD.encode(alloc, header)?.as_bytes())?;
+    push_base64(&mut front, alloc, header)?;
     front.extend_from_slice(b",r=")?;
     front.extend_from_slice(nonce)?;
     front.extend_from_slice(server_nonce)?;
@@ -117,10 +115,9 @@ fn proof_after_extensions(parts: &[u8]) -> Option<&[u8]>
 fn read_proof(alloc: Global, text: &[u8]) -> Result<Option<[u8; 32]>, AllocError>
     ensures { IfOk result (λ proof. proof ≡ proof_read text.now) }
 {
-    match STANDARD.decode(alloc, text) {
-        Ok(bytes) => Ok(proof_of(&bytes)),
-        Err(DecodeAllocError::DecodeError(_)) => Ok(None),
-        Err(DecodeAllocError::OutOfMemory) => Err(AllocError),
+    match from_base64(alloc, text)? {
+        Some(bytes) => Ok(proof_of(&bytes)),
+        None => Ok(None),
     }
 }
 

@@ -3,9 +3,9 @@
 ghost use Rattle.std.specs.Prelude.{◌≡◌, IfOk};
 ghost use Rattle.da_scram.specs.Scram.{is_right_proof, proof_says, request_salt, server_final, server_first, signed_text};
 
-use base64::engine::general_purpose::STANDARD;
 use da_fields::{Said, Text};
 use da_schemes::{ScramKeys, hmac_sha256, same_bytes, xor_into};
+use da_tabline::push_base64;
 use sha2::{Digest, Sha256};
 use std::alloc::{AllocError, Global};
 
@@ -33,7 +33,7 @@ pub(crate) fn server_first(
     text.extend_from_slice(nonce)?;
     text.extend_from_slice(server_nonce)?;
     text.extend_from_slice(b",s=")?;
-    text.extend_from_slice(STANDARD.encode(alloc, salt)?.as_bytes())?;
+    push_base64(&mut text, alloc, salt)?;
     text.extend_from_slice(b",i=")?;
     text.extend_from_slice(rounds.to_string(alloc)?.as_bytes())?;
     Ok(text)
@@ -91,10 +91,6 @@ fn server_final(alloc: Global, keys: &ScramKeys, signed: &[u8]) -> Result<Vec<u8
     ensures { IfOk result (λ text. text.items ≡ server_final keys.now signed.now) }
 {
     let mut text = Vec::from_slice(alloc, b"v=")?;
-    text.extend_from_slice(
-        STANDARD
-            .encode(alloc, &hmac_sha256(&keys.server, signed))?
-            .as_bytes(),
-    )?;
+    push_base64(&mut text, alloc, &hmac_sha256(&keys.server, signed))?;
     Ok(text)
 }

@@ -1,8 +1,9 @@
 //! Lines of fields: the cut of a stream into lines and of a line into fields, the escapes of a field, and the parts of a
-//! field: numbers in decimal, bytes in hexadecimal digits, what stands before and after a byte, and what stands after a
-//! given front. It also has the limits of lines.
+//! field: numbers in decimal, bytes in hexadecimal digits and in base64, what stands before and after a byte, and what
+//! stands after a given front. It also has the limits of lines.
 #![tactic(auto)]
 
+mod base64_text;
 mod cutter;
 mod escapes;
 mod hexadecimal;
@@ -13,6 +14,7 @@ mod parts;
 mod pieces;
 mod spelling;
 
+pub use base64_text::{from_base64, push_base64, to_base64};
 pub use cutter::{LineFault, Lines};
 pub use escapes::{escape, unescape, unescaped_fields, what_is_escaped_is_read};
 pub use hexadecimal::hex_digits;
