@@ -7,7 +7,7 @@ use Rattle.da_settings.specs.declared.settings.Settings.{Settings}
 use Rattle.da_tables.specs.declared.queries.QueryRow.{QueryRow}
 use Rattle.da_request.specs.declared.request.Request.{Request}
 use Rattle.da_tables.specs.Bridges.{answered_with}
-use Rattle.da_answers.specs.RecordedAnswers.{answered_by, compared_by}
+use Rattle.da_tables.specs.RecordedAnswers.{answered_by, compared_by}
 use Rattle.da_tables.specs.Queries.{with_comparison}
 
 abbrev pub IsOwnTest : Settings → List Request → Answer → Option Bool → QueryRow → Type 0

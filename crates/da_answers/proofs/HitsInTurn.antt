@@ -9,7 +9,7 @@ use Rattle.da_request.specs.declared.stages.Question.{Question}
 use Rattle.da_request.specs.declared.request.Request.{Request}
 use Rattle.da_tables.specs.declared.tables.Tables.{Tables}
 use Rattle.da_request.specs.Requests.{request_stage, question_in}
-use Rattle.da_answers.specs.Hits.{hit_for, hits_from, with_hit}
+use Rattle.da_tables.specs.Hits.{hit_for, hits_from, with_hit}
 use Rattle.da_answers.specs.Bridges.{hit_with_number, next_hit}
 
 module _ (h : Hit) (rest : Question → ℕ → List ℕ) where

@@ -3,7 +3,7 @@ use Rattle.std.specs.Prelude.{ℕ, Bool, Option, option_and_then, option_map}
 use Rattle.da_keys.specs.Keys.{key_first}
 use Rattle.da_keys.specs.declared.key.Key.{Key}
 use Rattle.da_fields.specs.declared.answer.Answer.{Answer}
-use Rattle.da_answers.specs.Hits.{hit_for}
+use Rattle.da_tables.specs.Hits.{hit_for}
 use Rattle.da_answers.specs.declared.hits.Hit.{Hit}
 use Rattle.da_request.specs.Requests.{question_in, request_stage, with_answer}
 use Rattle.da_request.specs.declared.request.Request.{Request}

@@ -1,3 +1,1 @@
 pub mod Bridges
-pub mod Hits
-pub mod RecordedAnswers

@@ -2,8 +2,8 @@
 
 ghost use Rattle.std.specs.Prelude.{◌≡◌, ◌∷◌, ◌++◌, IfOk, option_map, OnOk};
 ghost use Rattle.da_answers.specs.Bridges.{next_hit as hit_next, with_repeat};
-ghost use Rattle.da_answers.specs.Hits.{newest, last_failed, may_use, is_usable_answer, is_usable, hit_for, answer_of, with_hit, hits_from, database_count, hit_comparison, after_hit, after_hits};
-ghost use Rattle.da_answers.specs.RecordedAnswers.{key_of};
+ghost use Rattle.da_tables.specs.Hits.{newest, last_failed, may_use, is_usable_answer, is_usable, hit_for, answer_of, with_hit, hits_from, database_count, hit_comparison, after_hit, after_hits};
+ghost use Rattle.da_tables.specs.RecordedAnswers.{key_of};
 ghost use Rattle.da_base.specs.Words.{nth, passes_option};
 ghost use Rattle.da_keys.specs.Keys.{same_key};
 ghost use Rattle.da_request.specs.Requests.{question_in, request_stage};

@@ -1,7 +1,7 @@
 // Answers that are lost: their queries are asked once more.
 
 ghost use Rattle.std.specs.Prelude.{◌≡◌, ◌<◌, ◌^◌, ◌-◌, length};
-ghost use Rattle.da_answers.specs.RecordedAnswers.{asks_again, asks_same, is_death, is_kept_kind, is_lost};
+ghost use Rattle.da_tables.specs.RecordedAnswers.{asks_again, asks_same, is_death, is_kept_kind, is_lost};
 ghost use Rattle.da_base.specs.Words.{number_where};
 ghost use Rattle.da_tables.specs.Bridges.{with_effect};
 

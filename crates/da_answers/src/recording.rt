@@ -1,7 +1,7 @@
 // What is recorded of an answer, and which answers are kept.
 
 ghost use Rattle.std.specs.Prelude.{◌≡◌, ◌<◌, ◌-◌, ◌^◌, ◌∷◌, IfOk, Bool, List, Some, OnOk, length};
-ghost use Rattle.da_answers.specs.RecordedAnswers.{recorded_answer, is_kept, ttl_of, key_of, compared_by, answered_by, answers_request, after_answer_for, after_answer, kept_in};
+ghost use Rattle.da_tables.specs.RecordedAnswers.{recorded_answer, is_kept, ttl_of, key_of, compared_by, answered_by, answers_request, after_answer_for, after_answer, kept_in};
 ghost use Rattle.da_base.specs.Words.{nth, changed_nth};
 ghost use Rattle.da_keys.specs.Keys.{with_key as keys_with};
 ghost use Rattle.da_request.specs.declared.stages.Question.{Question as SomeQuestion};

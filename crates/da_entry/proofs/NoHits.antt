@@ -1,7 +1,7 @@
 -- No answer is repeated where no key is in the cache.
 use Rattle.std.proofs.Common.{◌≡◌, refl, ap, ℕ, zero, suc, ◌&&◌, List, [], ◌∷◌, Option, Some, None, option_and_then, if◌then◌else◌, length, arith}
-use Rattle.da_answers.specs.Hits.{database_count, hit_for, hits_from, is_usable, newest, with_hit}
-use Rattle.da_answers.specs.RecordedAnswers.{key_of}
+use Rattle.da_tables.specs.Hits.{database_count, hit_for, hits_from, is_usable, newest, with_hit}
+use Rattle.da_tables.specs.RecordedAnswers.{key_of}
 use Rattle.da_base.specs.Words.{nth, option_or_else}
 use Rattle.da_keys.specs.Keys.{has_key}
 use Rattle.da_keys.specs.declared.key.Key.{Key}

@@ -1,7 +1,7 @@
 // The tables after one more entry.
 
 ghost use Rattle.std.specs.Prelude.{◌≡◌, ◌<◌, ◌^◌, ◌-◌, ◌++◌, ◌∷◌, [], length, IfOk, Some, OnOk};
-ghost use Rattle.da_answers.specs.Hits.{after_hits};
+ghost use Rattle.da_tables.specs.Hits.{after_hits};
 ghost use Rattle.da_base.specs.Words.{nth, option_or_else};
 ghost use Rattle.da_play.specs.History.{with_handed_out, before_replies as spec_before_replies, before_input as spec_before_input, after_input, follows_from, after_stage, is_answer_recorded as spec_is_recorded, kept_for, keeps};
 ghost use Rattle.da_request.specs.declared.request.Request.{Request as SomeRequest};

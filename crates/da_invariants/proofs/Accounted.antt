@@ -5,7 +5,7 @@ use Rattle.std.proofs.lemmas.Option.{none-some, same_Some}
 use Rattle.da_base.specs.Words.{Bytes, nth, changed_nth, number_where, passes_option}
 use Rattle.da_fields.specs.Answers.{Answers, answer_from}
 use Rattle.da_fields.specs.declared.answer.Answer.{Answer}
-use Rattle.da_answers.specs.RecordedAnswers.{asks_same, is_death, is_kept_kind, is_lost, is_lost_in}
+use Rattle.da_tables.specs.RecordedAnswers.{asks_same, is_death, is_kept_kind, is_lost, is_lost_in}
 use Rattle.da_invariants.proofs.Lost.{SameQuery, lost_in, lost_stays}
 use Rattle.da_request.specs.Requests.{as_cancelled_of, cancelled, is_due, is_of, is_over_limit, is_pending, is_undecided, question_in, replied, replied_if_due, request_stage, timed_out, timed_out_if_over, with_answer, with_decision, with_late_answer, with_text}
 use Rattle.da_request.specs.declared.request.Request.{Request}

@@ -1,7 +1,7 @@
 -- The request of a lost query asks the same under the next number.
 use Rattle.std.proofs.Common.{◌≡◌, refl, sym, ◌∙◌, ap, subst, Option, Some, None, List, [], ◌∷◌, ◌++◌, ℕ, zero, suc, ◌+◌, Bool, true, false, cond, length, is_some, not, ◌&&◌, option_map, true≢false, arith}
 use Rattle.std.proofs.lemmas.Option.{none-some, same_Some}
-use Rattle.da_answers.specs.RecordedAnswers.{after_answer, after_answer_for, answered_by, answers_request, asks_again, is_kept, is_lost, is_lost_in, recorded_answer}
+use Rattle.da_tables.specs.RecordedAnswers.{after_answer, after_answer_for, answered_by, answers_request, asks_again, is_kept, is_lost, is_lost_in, recorded_answer}
 use Rattle.da_base.specs.Words.{changed_at, changed_nth, nth, passes_option}
 use Rattle.da_fields.specs.declared.answer.Answer.{Answer}
 use Rattle.da_fields.specs.declared.answer.Answer.TheVariants.{Internal}

@@ -6,7 +6,7 @@ use Rattle.da_fields.specs.declared.answer.Answer.{Answer}
 use Rattle.da_fields.specs.declared.answer.Answer.TheVariants.{Found, Passed, Mismatch, Unknown, Internal}
 use Rattle.da_fields.specs.declared.answer.Why.{Why}
 use Rattle.da_fields.specs.declared.answer.Why.TheVariants.{Died, Malformed, Said, Late as WasLate, Exit}
-use Rattle.da_answers.specs.RecordedAnswers.{asks_same, is_death, is_kept_kind, is_lost, is_lost_in}
+use Rattle.da_tables.specs.RecordedAnswers.{asks_same, is_death, is_kept_kind, is_lost, is_lost_in}
 use Rattle.da_invariants.specs.RepeatLaws.{AskedAgainWhereLost, AskedTwiceAtMost, IsRepeat}
 use Rattle.da_play.specs.History.{tables_of}
 use Rattle.da_tables.proofs.Cases.{and_first, and_second}

@@ -19,10 +19,10 @@ use Rattle.da_fields.specs.declared.answer.Answer.{Answer}
 use Rattle.da_play.specs.History.{tables_of, after, after_input, before_input}
 use Rattle.da_tables.specs.Tables.{with_due_replied, with_timed_out}
 use Rattle.da_request.specs.Requests.{is_over_limit, timed_out, timed_out_if_over, with_decision, replied_if_due}
-use Rattle.da_answers.specs.Hits.{AreHits, IsUsable, answer_of, with_hit, hit_with}
+use Rattle.da_tables.specs.Hits.{AreHits, IsUsable, answer_of, with_hit, hit_with}
 use Rattle.da_play.specs.Legal.{IsLegal, ContinuedHits}
 use Rattle.da_request.specs.Requests.{new_request, with_text}
-use Rattle.da_answers.specs.RecordedAnswers.{key_of}
+use Rattle.da_tables.specs.RecordedAnswers.{key_of}
 use Rattle.da_tables.specs.Queries.{is_running}
 use Rattle.da_request.specs.Requests.{with_answer, with_late_answer}
 use Rattle.da_invariants.specs.QueryLaws.{IsAsked, AnswersAreDistinct}

@@ -13,10 +13,10 @@ use Rattle.da_keys.specs.declared.key.Key.{Key}
 use Rattle.da_fields.specs.declared.answer.Answer.{Answer}
 use Rattle.da_play.specs.History.{tables_of, after, after_input, before_input}
 use Rattle.da_tables.specs.Tables.{with_due_replied, with_timed_out}
-use Rattle.da_answers.specs.Hits.{AreHits, IsUsable, newest_among, with_hit, hit_with}
+use Rattle.da_tables.specs.Hits.{AreHits, IsUsable, newest_among, with_hit, hit_with}
 use Rattle.da_invariants.specs.KeyLaws.{HasAnswer, KeysAreFit, KeysFit}
 use Rattle.da_play.specs.Legal.{IsLegal, ContinuedHits}
-use Rattle.da_answers.specs.RecordedAnswers.{key_of, ttl_of, recorded_answer, answered_by, after_answer, after_answer_for, is_lost}
+use Rattle.da_tables.specs.RecordedAnswers.{key_of, ttl_of, recorded_answer, answered_by, after_answer, after_answer_for, is_lost}
 use Rattle.da_tables.specs.Queries.{is_running, is_running_in}
 use Rattle.da_play.specs.History.{Tells}
 use Rattle.da_request.specs.Requests.{is_undecided}

@@ -4,8 +4,8 @@ use Rattle.std.proofs.lemmas.Option.{none-some, same_Some}
 use Rattle.da_base.specs.Words.{nth, option_or_else}
 use Rattle.da_fields.specs.Answers.{Answers}
 use Rattle.da_fields.specs.declared.answer.Answer.{Answer}
-use Rattle.da_answers.specs.RecordedAnswers.{answer_under}
-use Rattle.da_answers.specs.Hits.{AreHits, IsUsable, with_hit, answer_of}
+use Rattle.da_tables.specs.RecordedAnswers.{answer_under}
+use Rattle.da_tables.specs.Hits.{AreHits, IsUsable, with_hit, answer_of}
 use Rattle.da_play.specs.Legal.{ContinuedHits}
 use Rattle.da_steps.specs.Standing.{TablesStand, QueryStands}
 use Rattle.da_settings.specs.declared.settings.Settings.{Settings}

@@ -3,7 +3,7 @@ use Rattle.std.proofs.Common.{◌≡◌, refl, sym, ◌∙◌, ap, ap₂, Some, 
 use Rattle.std.proofs.lemmas.Option.{none-some, same_Some}
 use Rattle.da_base.specs.Words.{nth, changed_nth, number_where, one_further, passes_option}
 use Rattle.da_fields.specs.declared.answer.Answer.{Answer}
-use Rattle.da_answers.specs.RecordedAnswers.{asks_same, is_death, is_kept_kind, is_lost, is_lost_in}
+use Rattle.da_tables.specs.RecordedAnswers.{asks_same, is_death, is_kept_kind, is_lost, is_lost_in}
 use Rattle.da_invariants.proofs.Names.{none_passes}
 use Rattle.da_tables.proofs.Rows.{nth-changed}
 use Rattle.da_steps.proofs.Standing.{RowsStand, changed_rows}

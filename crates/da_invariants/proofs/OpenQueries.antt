@@ -12,10 +12,10 @@ use Rattle.da_tables.specs.Tables.{with_due_replied, with_timed_out}
 use Rattle.da_request.specs.Requests.{timed_out, timed_out_if_over, with_decision, replied_if_due}
 use Rattle.da_tables.specs.Queries.{as_taken}
 use Rattle.da_tables.specs.Queries.{used_again}
-use Rattle.da_answers.specs.Hits.{hit_comparison, hit_with}
+use Rattle.da_tables.specs.Hits.{hit_comparison, hit_with}
 use Rattle.da_request.specs.Requests.{new_request, with_text, is_awaiting}
 use Rattle.da_request.specs.Requests.{with_answer, with_late_answer}
-use Rattle.da_answers.specs.RecordedAnswers.{answered_by, recorded_answer}
+use Rattle.da_tables.specs.RecordedAnswers.{answered_by, recorded_answer}
 use Rattle.da_tables.specs.Queries.{is_running, first_waiting}
 use Rattle.da_invariants.specs.QueryLaws.{IsAsked, OpenQueriesAreAsked}
 use Rattle.da_request.specs.Requests.{is_undecided, is_due, is_held, is_over_limit, request_stage, question_in, challenge_in}

@@ -4,8 +4,8 @@ use Rattle.std.proofs.lemmas.Option.{none-some, same_Some}
 use Rattle.da_base.specs.Words.{nth, changed_nth, passes_option}
 use Rattle.da_fields.specs.Answers.{answer_from}
 use Rattle.da_fields.specs.declared.answer.Answer.{Answer}
-use Rattle.da_answers.specs.Hits.{AreHits, IsUsable, answer_of, hit_comparison, hit_with, with_hit}
-use Rattle.da_answers.specs.RecordedAnswers.{answered_by, is_lost, is_lost_in, recorded_answer}
+use Rattle.da_tables.specs.Hits.{AreHits, IsUsable, answer_of, hit_comparison, hit_with, with_hit}
+use Rattle.da_tables.specs.RecordedAnswers.{answered_by, is_lost, is_lost_in, recorded_answer}
 use Rattle.da_invariants.proofs.AsksNew.{asks_new}
 use Rattle.da_invariants.proofs.Distinct.{AllDistinct, DistinctNow, asked_before, continued_distinct, effect_distinct, effect_stands, effect_undecided, hit_is_asked, history_distinct, own_effect, tables_before}
 use Rattle.da_invariants.proofs.Lost.{lost_once_told}

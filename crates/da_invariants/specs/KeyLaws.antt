@@ -4,8 +4,8 @@ use Rattle.da_base.specs.Words.{nth, count_where}
 use Rattle.da_keys.specs.Keys.{same_key, has_key}
 use Rattle.da_keys.specs.declared.key.Key.{Key}
 use Rattle.da_fields.specs.declared.answer.Answer.{Answer}
-use Rattle.da_answers.specs.Hits.{newest}
-use Rattle.da_answers.specs.RecordedAnswers.{ttl_of}
+use Rattle.da_tables.specs.Hits.{newest}
+use Rattle.da_tables.specs.RecordedAnswers.{ttl_of}
 use Rattle.da_play.specs.History.{tables_of}
 use Rattle.da_play.specs.Legal.{IsLegal}
 use Rattle.da_play.specs.declared.input.Entry.{Entry}

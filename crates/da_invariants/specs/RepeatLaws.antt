@@ -3,7 +3,7 @@ use Rattle.std.specs.Prelude.{◌≡◌, ◌≤◌, ◌<◌, ◌+◌, ℕ, true,
 use Rattle.da_base.specs.Words.{nth, count_where}
 use Rattle.da_fields.specs.declared.answer.Answer.TheVariants.{Internal}
 use Rattle.da_fields.specs.declared.answer.Why.TheVariants.{Died}
-use Rattle.da_answers.specs.RecordedAnswers.{asks_same, is_kept_kind, is_lost_in}
+use Rattle.da_tables.specs.RecordedAnswers.{asks_same, is_kept_kind, is_lost_in}
 use Rattle.da_play.specs.History.{tables_of}
 use Rattle.da_play.specs.Legal.{IsLegal}
 use Rattle.da_play.specs.declared.input.Entry.{Entry}

@@ -19,11 +19,11 @@ use Rattle.da_laws.specs.ComparisonLaws.{IsRecordedAnswer, IsCompared, Compariso
 use Rattle.da_play.specs.Comparing.{Compared, use_compares, known_answer, first_of_two, compares_from, recorded_compares, own_compares, compares_after, entry_compares, hint}
 use Rattle.da_play.specs.History.{after_input, before_input, tables_of}
 use Rattle.da_tables.specs.Tables.{with_due_replied, with_timed_out}
-use Rattle.da_answers.specs.Hits.{hit_for, with_hit, database_count}
+use Rattle.da_tables.specs.Hits.{hit_for, with_hit, database_count}
 use Rattle.da_play.specs.Legal.{entry_moment}
 use Rattle.da_play.specs.Play.{refusal}
 use Rattle.da_tables.specs.Queries.{is_running}
-use Rattle.da_answers.specs.RecordedAnswers.{recorded_answer}
+use Rattle.da_tables.specs.RecordedAnswers.{recorded_answer}
 use Rattle.da_request.specs.Requests.{request_stage, question_in, login_of, is_authentication, is_undecided}
 use Rattle.da_play.specs.declared.input.Entry.{Entry}
 use Rattle.da_play.specs.declared.input.Input.{Input}

@@ -2,8 +2,8 @@
 use Rattle.std.proofs.Common.{◌≡◌, refl, sym, ◌∙◌, ap, Option, Some, None, List, [], ◌∷◌, ◌++◌, ℕ, zero, suc, ◌+◌, ◌≤◌, Bool, true, false, cond, ◌&&◌, is_none, option_and_then, option_to_list, arith}
 use Rattle.da_base.specs.Words.{nth, passes_option, option_or_else}
 use Rattle.da_fields.specs.declared.answer.Answer.TheVariants.{Mismatch}
-use Rattle.da_answers.specs.Hits.{hit_for, hits_from, with_hit, database_count}
-use Rattle.da_answers.specs.RecordedAnswers.{recorded_answer}
+use Rattle.da_tables.specs.Hits.{hit_for, hits_from, with_hit, database_count}
+use Rattle.da_tables.specs.RecordedAnswers.{recorded_answer}
 use Rattle.da_steps.proofs.AskedDatabases.{open_count, with_one, fewer, body_numbers, request_asks}
 use Rattle.da_steps.proofs.HitsMade.{open_of, hit_leaves_fewer, enough}
 use Rattle.da_laws.specs.ComparisonLaws.{recorded_uses, known_uses, after_hit, uses_in_turn, entry_uses, HintsAreTheFirst}

@@ -2,7 +2,7 @@
 use Rattle.std.proofs.Common.{◌≡◌, refl, sym, ◌∙◌, ap₂, subst, [], ◌∷◌}
 use Rattle.std.proofs.lemmas.Option.{same_Some}
 use Rattle.da_laws.specs.HitLaws.{HitsAreUnique}
-use Rattle.da_answers.specs.Hits.{AreHits, IsUsable, with_hit}
+use Rattle.da_tables.specs.Hits.{AreHits, IsUsable, with_hit}
 
 pub hits_are_unique : HitsAreUnique
 hits_are_unique settings moment tables r [] [] a b = refl

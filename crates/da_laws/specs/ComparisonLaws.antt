@@ -3,8 +3,8 @@ use Rattle.std.specs.Prelude.{◌≡◌, ◌⊎◌, ℕ, List, [], ◌∷◌, �
 use Rattle.da_base.specs.Words.{nth, option_or_else}
 use Rattle.da_schemes.specs.Stored.{matches}
 use Rattle.da_fields.specs.declared.answer.Answer.{Answer}
-use Rattle.da_answers.specs.Hits.{with_hit}
-use Rattle.da_answers.specs.RecordedAnswers.{recorded_answer}
+use Rattle.da_tables.specs.Hits.{with_hit}
+use Rattle.da_tables.specs.RecordedAnswers.{recorded_answer}
 use Rattle.da_play.specs.Comparing.{Compared, hint, known_answer, use_compares}
 use Rattle.da_play.specs.History.{after_input, before_input, tables_of}
 use Rattle.da_play.specs.Legal.{entry_moment}

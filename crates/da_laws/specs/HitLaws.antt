@@ -1,6 +1,6 @@
 -- Laws on the cache.
 use Rattle.std.specs.Prelude.{◌≡◌, ℕ, List}
-use Rattle.da_answers.specs.Hits.{AreHits, database_count, hits_from}
+use Rattle.da_tables.specs.Hits.{AreHits, database_count, hits_from}
 use Rattle.da_request.specs.declared.request.Request.{Request}
 use Rattle.da_settings.specs.declared.settings.Settings.{Settings}
 use Rattle.da_tables.specs.declared.tables.Tables.{Tables}

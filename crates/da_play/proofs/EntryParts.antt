@@ -23,11 +23,11 @@ use Rattle.da_play.specs.History.{after, after_input, after_stage, after_continu
 use Rattle.da_request.specs.Requests.{with_decision}
 use Rattle.da_tables.specs.Tables.{with_due_replied, with_timed_out}
 use Rattle.da_tables.specs.Queries.{as_taken}
-use Rattle.da_answers.specs.Hits.{after_hits, after_hit, hit_on, hit_with, answer_of}
+use Rattle.da_tables.specs.Hits.{after_hits, after_hit, hit_on, hit_with, answer_of}
 use Rattle.da_request.specs.Requests.{new_request, is_awaiting, with_text}
 use Rattle.da_lines.specs.Lines.{continues, is_cancellable, cancels, after_client_message, after_master_message, client_line, master_line, line_on, line_by}
 use Rattle.da_tables.specs.Connections.{with_version, with_pid}
-use Rattle.da_answers.specs.RecordedAnswers.{after_answer, after_answer_for, answers_request, asks_again, recorded_answer, is_kept, is_lost, key_of, ttl_of, answered_by}
+use Rattle.da_tables.specs.RecordedAnswers.{after_answer, after_answer_for, answers_request, asks_again, recorded_answer, is_kept, is_lost, key_of, ttl_of, answered_by}
 use Rattle.da_tables.specs.Queries.{is_running, is_running_in, first_waiting, with_new_query}
 use Rattle.da_request.specs.Requests.{with_answer, with_late_answer}
 use Rattle.da_play.specs.History.{Tells}

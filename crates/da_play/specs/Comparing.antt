@@ -5,8 +5,8 @@ use Rattle.da_keys.specs.Keys.{has_key}
 use Rattle.da_passdb.specs.Outcomes.{password_compared}
 use Rattle.da_schemes.specs.Stored.{StoredPassword}
 use Rattle.da_fields.specs.declared.answer.Answer.{Answer}
-use Rattle.da_answers.specs.Hits.{database_count, hit_for, newest, with_hit}
-use Rattle.da_answers.specs.RecordedAnswers.{key_of, recorded_answer, ttl_of}
+use Rattle.da_tables.specs.Hits.{database_count, hit_for, newest, with_hit}
+use Rattle.da_tables.specs.RecordedAnswers.{key_of, recorded_answer, ttl_of}
 use Rattle.da_play.specs.History.{after_input, before_input, tables_of}
 use Rattle.da_play.specs.Legal.{entry_moment}
 use Rattle.da_play.specs.Play.{refusal}

@@ -4,8 +4,8 @@ use Rattle.da_base.specs.Words.{hex, nth, option_or_else}
 use Rattle.da_fields.specs.declared.answer.Answer.{Answer}
 use Rattle.da_fields.specs.declared.answer.Answer.TheVariants.{Internal}
 use Rattle.da_fields.specs.declared.answer.Why.TheVariants.{Late as WasLate}
-use Rattle.da_answers.specs.Hits.{after_hits}
-use Rattle.da_answers.specs.RecordedAnswers.{after_answer, kept_in, recorded_answer}
+use Rattle.da_tables.specs.Hits.{after_hits}
+use Rattle.da_tables.specs.RecordedAnswers.{after_answer, kept_in, recorded_answer}
 use Rattle.da_lines.specs.Lines.{line_on}
 use Rattle.da_play.specs.declared.input.Entry.{Entry}
 use Rattle.da_play.specs.declared.input.Input.{Input}

@@ -5,7 +5,7 @@ use Rattle.da_base.specs.Words.{later, nth, passes_option, count_where}
 use Rattle.da_fields.specs.FieldList.{Pairs}
 use Rattle.da_fields.specs.declared.answer.Answer.{Answer}
 use Rattle.da_fields.specs.declared.answer.Answer.TheVariants.{Found, Passed}
-use Rattle.da_answers.specs.Hits.{AreHits}
+use Rattle.da_tables.specs.Hits.{AreHits}
 use Rattle.da_play.specs.Effects.{entry_lines}
 use Rattle.da_play.specs.History.{after_input, before_input, tables_of}
 use Rattle.da_play.specs.declared.input.Entry.{Entry}

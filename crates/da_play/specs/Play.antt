@@ -1,7 +1,7 @@
 -- A play of events: the replies of the server, one after another.
 use Rattle.std.specs.Prelude.{ℕ, suc, Bool, List, [], ◌∷◌, length, Option, Some, None, option_map, option_and_then, Result, Ok, Err, if◌then◌else◌, nat_le, nat_lt, map, reverse}
 use Rattle.da_base.specs.Words.{nth, option_or_else}
-use Rattle.da_answers.specs.Hits.{database_count, hits_from}
+use Rattle.da_tables.specs.Hits.{database_count, hits_from}
 use Rattle.da_play.specs.Effects.{due_lines, effects, own_lines}
 use Rattle.da_play.specs.History.{after, after_input, before_input, tables_of}
 use Rattle.da_play.specs.Legal.{entry_moment, is_full, late_from}

@@ -6,7 +6,7 @@ use Rattle.da_base.specs.Words.{nth, passes_option, option_or_else}
 use Rattle.da_readings.specs.ListReadings.{kept_query, CacheableAreRead}
 use Rattle.da_play.specs.History.{tables_of, after, after_input, after_continued, before_input, keeps, kept_for}
 use Rattle.da_tables.specs.Tables.{with_due_replied, with_timed_out}
-use Rattle.da_answers.specs.RecordedAnswers.{is_kept, recorded_answer}
+use Rattle.da_tables.specs.RecordedAnswers.{is_kept, recorded_answer}
 use Rattle.da_tables.specs.Queries.{is_running, is_running_in}
 use Rattle.da_steps.specs.Standing.{TablesStand, QueryStands}
 use Rattle.da_tables.specs.Tables.{AfterInput, with_end}

@@ -11,15 +11,15 @@ use Rattle.da_steps.proofs.Standing.{input_stands, continued_stands, before_stan
 use Rattle.da_base.specs.Words.{nth, changed_nth, passes_option, option_or_else}
 use Rattle.da_fields.specs.Answers.{Answers}
 use Rattle.da_fields.specs.declared.answer.Answer.{Answer}
-use Rattle.da_answers.specs.RecordedAnswers.{answer_under}
+use Rattle.da_tables.specs.RecordedAnswers.{answer_under}
 use Rattle.da_readings.specs.ListReadings.{told_query, use_by, own_use, own_comparisons, with_one_hit, hit_use, hit_comparisons, uses_read, ComparisonsAreRead}
 use Rattle.da_play.specs.History.{tables_of, after, after_input, before_input}
 use Rattle.da_tables.specs.Tables.{with_due_replied, with_timed_out}
 use Rattle.da_tables.specs.Queries.{as_taken}
-use Rattle.da_answers.specs.Hits.{hit_with, hit_comparison}
+use Rattle.da_tables.specs.Hits.{hit_with, hit_comparison}
 use Rattle.da_tables.specs.Queries.{used_again}
 use Rattle.da_play.specs.Legal.{IsLegal, ContinuedHits}
-use Rattle.da_answers.specs.RecordedAnswers.{answered_by, compared_by, recorded_answer}
+use Rattle.da_tables.specs.RecordedAnswers.{answered_by, compared_by, recorded_answer}
 use Rattle.da_request.specs.Requests.{use_comparison, with_answer}
 use Rattle.da_tables.specs.Queries.{with_comparison, is_running, first_waiting}
 use Rattle.da_play.specs.History.{Tells}

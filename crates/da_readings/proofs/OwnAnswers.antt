@@ -15,14 +15,14 @@ use Rattle.da_fields.specs.declared.answer.Answer.{Answer}
 use Rattle.da_fields.specs.declared.answer.Answer.TheVariants.{Internal}
 use Rattle.da_fields.specs.declared.answer.Why.TheVariants.{Late as WasLate}
 use Rattle.da_readings.specs.ListReadings.{if_continued, told_query, own_answer, answers_read, AnswersAreRead}
-use Rattle.da_answers.specs.RecordedAnswers.{answer_under, is_lost, is_lost_in}
+use Rattle.da_tables.specs.RecordedAnswers.{answer_under, is_lost, is_lost_in}
 use Rattle.da_play.specs.History.{tables_of, after, after_input, before_input}
 use Rattle.da_tables.specs.Tables.{with_due_replied, with_timed_out}
 use Rattle.da_request.specs.Requests.{with_decision, replied_if_due, is_over_limit, timed_out, timed_out_if_over}
-use Rattle.da_answers.specs.Hits.{hit_with}
+use Rattle.da_tables.specs.Hits.{hit_with}
 use Rattle.da_play.specs.Legal.{IsLegal, ContinuedHits}
 use Rattle.da_request.specs.Requests.{new_request, with_text}
-use Rattle.da_answers.specs.RecordedAnswers.{answered_by, recorded_answer}
+use Rattle.da_tables.specs.RecordedAnswers.{answered_by, recorded_answer}
 use Rattle.da_tables.specs.Queries.{is_running}
 use Rattle.da_request.specs.Requests.{with_answer, with_late_answer}
 use Rattle.da_invariants.specs.QueryLaws.{IsAsked}

@@ -14,8 +14,8 @@ use Rattle.da_play.specs.History.{tables_of, after, after_input, before_input}
 use Rattle.da_tables.specs.Tables.{with_due_replied, with_timed_out}
 use Rattle.da_tables.specs.Queries.{as_taken}
 use Rattle.da_tables.specs.Queries.{used_again}
-use Rattle.da_answers.specs.Hits.{hit_comparison}
-use Rattle.da_answers.specs.RecordedAnswers.{answered_by, recorded_answer}
+use Rattle.da_tables.specs.Hits.{hit_comparison}
+use Rattle.da_tables.specs.RecordedAnswers.{answered_by, recorded_answer}
 use Rattle.da_tables.specs.Queries.{first_waiting, is_running, is_running_in, is_waiting}
 use Rattle.da_readings.specs.RowReadings.{Among, WasTaken, WasAnswered, QueriesAreRead}
 use Rattle.da_play.specs.History.{Tells}

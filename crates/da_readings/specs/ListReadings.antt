@@ -6,8 +6,8 @@ use Rattle.da_fields.specs.declared.answer.Answer.{Answer}
 use Rattle.da_msgs.specs.ClientMessages.{client_message}
 use Rattle.da_msgs.specs.declared.client.ClientMsg.{ClientMsg}
 use Rattle.da_msgs.specs.declared.client.ClientMsg.TheVariants.{Cont}
-use Rattle.da_answers.specs.Hits.{hit_comparison}
-use Rattle.da_answers.specs.RecordedAnswers.{answer_under, is_kept, is_lost_in, recorded_answer}
+use Rattle.da_tables.specs.Hits.{hit_comparison}
+use Rattle.da_tables.specs.RecordedAnswers.{answer_under, is_kept, is_lost_in, recorded_answer}
 use Rattle.da_play.specs.History.{after_input, before_input, tables_of}
 use Rattle.da_play.specs.Legal.{IsLegal}
 use Rattle.da_play.specs.declared.input.Entry.{Entry}

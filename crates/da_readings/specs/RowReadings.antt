@@ -3,7 +3,7 @@ use Rattle.std.specs.Prelude.{◌≡◌, ℕ, true, false, List, [], ◌∷◌, 
 use Rattle.std.specs.List.{list_any}
 use Rattle.da_base.specs.Words.{nth, passes_option}
 use Rattle.da_fields.specs.declared.answer.Answer.{Answer}
-use Rattle.da_answers.specs.RecordedAnswers.{recorded_answer}
+use Rattle.da_tables.specs.RecordedAnswers.{recorded_answer}
 use Rattle.da_play.specs.Effects.{effects}
 use Rattle.da_play.specs.History.{Tells, tables_of}
 use Rattle.da_play.specs.declared.input.Entry.{Entry}

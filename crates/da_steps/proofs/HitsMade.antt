@@ -8,9 +8,9 @@ use Rattle.da_keys.specs.Keys.{has_key}
 use Rattle.da_fields.specs.Answers.{Answers}
 use Rattle.da_fields.specs.declared.answer.Answer.{Answer}
 use Rattle.da_fields.specs.declared.answer.Answer.TheVariants.{Mismatch}
-use Rattle.da_answers.specs.Hits.{AreHits, hits_from, hit_for, with_hit, answer_of, is_usable, is_usable_answer, newest}
+use Rattle.da_tables.specs.Hits.{AreHits, hits_from, hit_for, with_hit, answer_of, is_usable, is_usable_answer, newest}
 use Rattle.da_request.specs.Requests.{with_answer}
-use Rattle.da_answers.specs.RecordedAnswers.{key_of}
+use Rattle.da_tables.specs.RecordedAnswers.{key_of}
 use Rattle.da_request.specs.Requests.{request_stage, question_in}
 use Rattle.da_settings.specs.declared.settings.Settings.{Settings}
 use Rattle.da_tables.specs.declared.queries.QueryRow.{QueryRow}
@@ -19,7 +19,7 @@ use Rattle.da_request.specs.declared.request.Body.TheVariants.{Authenticates, Lo
 use Rattle.da_request.specs.declared.stages.Question.{Question}
 use Rattle.da_request.specs.declared.request.Request.{Request}
 use Rattle.da_tables.specs.declared.tables.Tables.{Tables}
-use Rattle.da_answers.specs.Hits.{database_count}
+use Rattle.da_tables.specs.Hits.{database_count}
 use Rattle.da_steps.proofs.UsableLemmas.{hit_is_usable, usable_is_hit}
 use Rattle.da_steps.proofs.AskedDatabases.{is_open, with_one, open_count, at_most, fewer, numbers, user_numbers, body_numbers, request_asks}
 

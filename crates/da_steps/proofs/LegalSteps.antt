@@ -18,7 +18,7 @@ use Rattle.da_settings.specs.declared.settings.Settings.{Settings}
 use Rattle.da_tables.specs.declared.queries.QueryRow.{QueryRow}
 use Rattle.da_tables.specs.declared.tables.Tables.{Tables}
 use Rattle.da_play.specs.Legal.{ContinuedHits, EntryHits}
-use Rattle.da_answers.specs.Hits.{hits_from, database_count}
+use Rattle.da_tables.specs.Hits.{hits_from, database_count}
 use Rattle.da_play.specs.History.{after_input, before_input}
 use Rattle.da_tables.specs.Tables.{AfterInput}
 use Rattle.da_request.specs.declared.request.Request.{Request}

@@ -19,7 +19,7 @@ use Rattle.da_play.specs.History.{tables_of, after, after_input, before_input}
 use Rattle.da_request.specs.Requests.{with_text, is_awaiting}
 use Rattle.da_lines.specs.Lines.{continues, cancels, after_client_message, after_master_message, client_line, master_line, line_on, line_by, is_cancellable}
 use Rattle.da_tables.specs.Connections.{with_version, with_pid}
-use Rattle.da_answers.specs.RecordedAnswers.{after_answer, after_answer_for, is_lost, recorded_answer}
+use Rattle.da_tables.specs.RecordedAnswers.{after_answer, after_answer_for, is_lost, recorded_answer}
 use Rattle.da_tables.specs.Queries.{is_running}
 use Rattle.da_request.specs.Requests.{is_undecided}
 use Rattle.da_tables.specs.Tables.{AfterInput, continuing, continuing_none, closing, with_end, with_connection, with_request, closed, is_client, is_open_in}

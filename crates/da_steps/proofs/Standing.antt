@@ -12,10 +12,10 @@ use Rattle.da_tables.specs.Tables.{with_due_replied, with_timed_out}
 use Rattle.da_request.specs.Requests.{with_decision, replied_if_due}
 use Rattle.da_tables.specs.Queries.{as_taken}
 use Rattle.da_tables.specs.Queries.{used_again}
-use Rattle.da_answers.specs.Hits.{hit_comparison, hit_with}
+use Rattle.da_tables.specs.Hits.{hit_comparison, hit_with}
 use Rattle.da_request.specs.Requests.{with_text, body_with_text}
 use Rattle.da_request.specs.Requests.{with_answer, with_late_answer}
-use Rattle.da_answers.specs.RecordedAnswers.{answered_by, recorded_answer, key_of}
+use Rattle.da_tables.specs.RecordedAnswers.{answered_by, recorded_answer, key_of}
 use Rattle.da_tables.specs.Queries.{is_running, is_waiting, first_waiting}
 use Rattle.da_request.specs.Requests.{has_limit, is_authentication, is_granted_for, is_over_limit, is_undecided, is_due, is_held, is_pending, timed_out, timed_out_if_over}
 use Rattle.da_tables.specs.Tables.{AfterInput, with_end, with_query, closed}

@@ -7,8 +7,8 @@ use Rattle.da_tables.proofs.Rows.{passing}
 use Rattle.da_base.specs.Words.{nth, passes_option}
 use Rattle.da_keys.specs.Keys.{has_key}
 use Rattle.da_fields.specs.declared.answer.Answer.{Answer}
-use Rattle.da_answers.specs.Hits.{IsUsable, hit_for, is_usable, is_usable_answer, may_use, newest}
-use Rattle.da_answers.specs.RecordedAnswers.{key_of, ttl_of}
+use Rattle.da_tables.specs.Hits.{IsUsable, hit_for, is_usable, is_usable_answer, may_use, newest}
+use Rattle.da_tables.specs.RecordedAnswers.{key_of, ttl_of}
 use Rattle.da_request.specs.Requests.{use_comparison}
 use Rattle.da_settings.specs.declared.settings.Settings.{Settings}
 use Rattle.da_tables.specs.declared.queries.QueryRow.{QueryRow}

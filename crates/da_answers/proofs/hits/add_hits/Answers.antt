@@ -1,5 +1,5 @@
 use Rattle.std.proofs.Common.{◌≡◌, ◌∙◌, ap, sym, rules, Some, ◌++◌, ◌∷◌, [], ◌-◌}
-use Rattle.da_answers.specs.Hits.{hits_from, with_hit}
+use Rattle.da_tables.specs.Hits.{hits_from, with_hit}
 use Rattle.da_answers.specs.Bridges.{next_hit}
 use Rattle.da_answers.proofs.HitsInTurn.{more_hits, goes_on}
 use Rattle.da_answers.proofs.hits.add_hits.Goals as goal

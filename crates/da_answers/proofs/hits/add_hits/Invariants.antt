@@ -1,5 +1,5 @@
 use Rattle.std.proofs.Common.{◌≡◌, ◌++◌}
-use Rattle.da_answers.specs.Hits.{hits_from}
+use Rattle.da_tables.specs.Hits.{hits_from}
 use Rattle.da_answers.proofs.hits.add_hits.Given as goal
 
 abbrev pub invariant-loop-left : goal.invariant-loop-left

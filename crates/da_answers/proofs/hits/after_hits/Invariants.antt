@@ -1,5 +1,5 @@
 use Rattle.std.proofs.Common.{◌≡◌, drop}
-use Rattle.da_answers.specs.Hits.{after_hits}
+use Rattle.da_tables.specs.Hits.{after_hits}
 use Rattle.da_answers.proofs.hits.after_hits.Given as goal
 
 abbrev pub invariant-loop-number : goal.invariant-loop-number

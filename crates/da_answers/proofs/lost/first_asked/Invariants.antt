@@ -1,5 +1,5 @@
 use Rattle.std.proofs.Common.{◌≡◌, drop}
-use Rattle.da_answers.specs.RecordedAnswers.{asks_same}
+use Rattle.da_tables.specs.RecordedAnswers.{asks_same}
 use Rattle.da_base.specs.Words.{number_where}
 use Rattle.da_tables.proofs.Rows.{further_by}
 use Rattle.da_answers.proofs.lost.first_asked.Given as goal

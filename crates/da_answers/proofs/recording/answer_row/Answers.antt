@@ -2,7 +2,7 @@ use Rattle.std.proofs.Common.{◌∙◌, rules}
 use Rattle.std.proofs.lemmas.Result.{on_ok_weaker}
 use Rattle.da_base.specs.Words.{nth}
 use Rattle.da_tables.specs.Bridges.{answered_with}
-use Rattle.da_answers.specs.RecordedAnswers.{answered_by}
+use Rattle.da_tables.specs.RecordedAnswers.{answered_by}
 use Rattle.da_answers.proofs.AnsweredRows.{answered-alike}
 use Rattle.da_tables.proofs.Rows.{changed-alike}
 use Rattle.da_answers.proofs.recording.answer_row.Goals as goal

@@ -11,7 +11,7 @@ use Rattle.da_passdb.specs.LoginChain.{move, login_chain}
 use Rattle.da_settings.specs.DefaultSettings.{default_settings}
 use Rattle.da_request.specs.Attempts.{said, names, opening, attempt_stage}
 use Rattle.da_request.specs.Requests.{request_stage, login_of, decision, reply_delay, is_due, is_over_limit}
-use Rattle.da_answers.specs.Hits.{is_usable}
+use Rattle.da_tables.specs.Hits.{is_usable}
 use Rattle.da_tables.specs.Tables.{with_due_replied, with_timed_out}
 use Rattle.da_play.specs.History.{before_input, after_input, after_stage, after}
 use Rattle.da_play.specs.Effects.{due_requests, effects}

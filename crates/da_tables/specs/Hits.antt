@@ -4,7 +4,7 @@ use Rattle.da_base.specs.Words.{nth, passes_option, option_or_else}
 use Rattle.da_keys.specs.Keys.{same_key, has_key, key_first}
 use Rattle.da_keys.specs.declared.key.Key.{Key}
 use Rattle.da_fields.specs.declared.answer.Answer.{Answer}
-use Rattle.da_answers.specs.RecordedAnswers.{key_of, ttl_of}
+use Rattle.da_tables.specs.RecordedAnswers.{key_of, ttl_of}
 use Rattle.da_request.specs.Requests.{question_in, request_stage, use_comparison, with_answer}
 use Rattle.da_request.specs.declared.request.Request.{Request}
 use Rattle.da_request.specs.declared.stages.Question.{Question}
