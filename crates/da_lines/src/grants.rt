@@ -4,6 +4,7 @@ ghost use Rattle.std.specs.Prelude.{◌≡◌, ◌<◌, ◌^◌, ◌-◌, IfOk, 
 ghost use Rattle.da_base.specs.Words.{nth};
 ghost use Rattle.da_lines.specs.Grants.{login_grant, grant_for, grant_on, granted};
 
+use crate::logins::{is_fresh, lookup_for};
 use da_request::{Grant, Request};
 use da_settings::Settings;
 use da_tables::Tables;
@@ -20,10 +21,10 @@ pub fn login_grant(
 ) -> Result<Option<Grant>, AllocError>
     ensures { IfOk result (λ grant. grant ≡ login_grant settings.now moment serves number request.now) }
 {
-    if !request.is_fresh(moment) || serves {
+    if !is_fresh(request, moment) || serves {
         return Ok(None);
     }
-    match request.lookup(alloc, settings)? {
+    match lookup_for(request, alloc, settings)? {
         Some(lookup) => Ok(Some(Grant {
             request: number,
             lookup,

@@ -4,6 +4,7 @@
 
 mod grants;
 mod lines;
+mod logins;
 
 pub use grants::{granted, login_grant};
 pub use lines::{LineMeaning, line};

@@ -3,9 +3,7 @@
 ghost use Rattle.std.specs.Prelude.{◌≡◌, ◌<◌, ◌^◌, ◌-◌, IfOk, option_and_then};
 ghost use Rattle.da_request.specs.Requests.{is_fresh, lookup_with, decision};
 
-use crate::openings::vars_for;
-use crate::request::{Body, Request};
-use crate::stages::Decision;
+use da_request::{Body, Decision, Request, vars_for};
 use da_settings::Settings;
 use da_userdb::Lookup;
 use std::alloc::{AllocError, Global};
@@ -13,26 +11,28 @@ use std::alloc::{AllocError, Global};
 /// How long an authenticated id may be used, in milliseconds.
 const LOGIN_LIFE: u64 = 150_000;
 
-impl Request {
-    /// Whether it isn't cancelled, and was replied at most 150,000 ms ago.
-    pub fn is_fresh(&self, moment: u64) -> bool
-        ensures { result ≡ is_fresh moment self.now }
-    {
-        !self.is_cancelled
-            && match self.replied {
-                Some(replied) => moment <= replied.saturating_add(LOGIN_LIFE),
-                None => false,
-            }
-    }
-
-    /// What is looked up for the login, where it succeeded.
-    pub fn lookup(&self, alloc: Global, settings: &Settings) -> Result<Option<Lookup>, AllocError>
-        ensures { IfOk result (λ lookup. lookup ≡ option_and_then (lookup_with self.now.body) (decision settings.now self.now)) }
-    {
-        match self.decision(alloc, settings)? {
-            Some(decision) => lookup_with(alloc, &self.body, decision),
-            None => Ok(None),
+/// Whether the request isn't cancelled, and was replied at most 150,000 ms ago.
+pub(crate) fn is_fresh(request: &Request, moment: u64) -> bool
+    ensures { result ≡ is_fresh moment request.now }
+{
+    !request.is_cancelled
+        && match request.replied {
+            Some(replied) => moment <= replied.saturating_add(LOGIN_LIFE),
+            None => false,
         }
+}
+
+/// What is looked up for the login that the request made, where it succeeded.
+pub(crate) fn lookup_for(
+    request: &Request,
+    alloc: Global,
+    settings: &Settings,
+) -> Result<Option<Lookup>, AllocError>
+    ensures { IfOk result (λ lookup. lookup ≡ option_and_then (lookup_with request.now.body) (decision settings.now request.now)) }
+{
+    match request.decision(alloc, settings)? {
+        Some(decision) => lookup_with(alloc, &request.body, decision),
+        None => Ok(None),
     }
 }
 

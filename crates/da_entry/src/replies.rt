@@ -5,10 +5,10 @@ ghost use Rattle.da_base.specs.Words.{to_base64};
 ghost use Rattle.da_msgs.specs.Replies.{reply_line, master_reply_line};
 ghost use Rattle.da_request.specs.Requests.{final_line, challenge_line};
 
-use crate::stages::Decision;
-use base64::engine::general_purpose::STANDARD;
 use da_fields::{Fields, Text};
 use da_msgs::{MasterReply, Reply};
+use da_request::Decision;
+use da_tabline::to_base64;
 use std::alloc::{AllocError, Global};
 
 /// The line of a final reply to the request of this id, without its LF. A failure of a login has its code where the
@@ -107,7 +107,7 @@ fn printed_to_master(alloc: Global, reply: &MasterReply) -> Result<Text, AllocEr
 fn coded(alloc: Global, text: &[u8]) -> Result<Text, AllocError>
     ensures { IfOk result (λ made. made ≡ to_base64 text.now) }
 {
-    Ok(Text::new(STANDARD.encode(alloc, text)?.into_bytes()))
+    Ok(Text::new(to_base64(alloc, text)?))
 }
 
 fn optional_coded(alloc: Global, text: &Option<Text>) -> Result<Option<Text>, AllocError>
