@@ -1,4 +1,3 @@
 pub mod Bridges
-pub mod Printed
 pub mod Serving
 pub mod Words

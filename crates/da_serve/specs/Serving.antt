@@ -14,7 +14,7 @@ use Rattle.da_outside.specs.Sink.{SinkState}
 use Rattle.da_play.specs.Legal.{IsLegal}
 use Rattle.da_play.specs.declared.input.Entry.{Entry}
 use Rattle.da_port.specs.declared.terms.Terms.{Terms}
-use Rattle.da_serve.specs.Printed.{HasEnded, Prints}
+use Rattle.da_finish.specs.Printed.{HasEnded, Prints}
 use Rattle.da_serve.specs.Words.{serve_task}
 use Rattle.da_settings.specs.declared.settings.Goal.{Goal}
 use Rattle.da_settings.specs.declared.settings.Settings.{Settings}

@@ -1,7 +1,7 @@
 // Seats of threads, which come back.
 
 ghost use Rattle.std.specs.Prelude.{◌≡◌, All};
-ghost use Rattle.da_serve.specs.Printed.{HasEnded};
+ghost use Rattle.da_finish.specs.Printed.{HasEnded};
 ghost use Rattle.da_turn.specs.Seats.{IsFree, IsOf, seen};
 
 use da_port::{Port, Seat};

@@ -2,15 +2,15 @@
 
 ghost use Rattle.std.specs.Prelude.{◌≡◌, map, string_bytes};
 ghost use Rattle.da_serve.specs.Bridges.{Binds, BindsBoth};
-ghost use Rattle.da_serve.specs.Printed.{HasEnded};
+ghost use Rattle.da_finish.specs.Printed.{HasEnded};
 ghost use Rattle.da_serve.specs.Serving.{RunsServe, ServesNew, ServesUnder};
 ghost use Rattle.da_turn.specs.Seats.{IsFree, IsOf, seen};
 
-use crate::finish::finish_serve;
 use crate::seats::{join_all, take_in};
 use crate::shared::Shared;
 use crate::words::task_of;
 use da_command::{Status, read_settings};
+use da_finish::finish_serve;
 use da_msgs::ConnKind;
 use da_outside::{Clock, Crew, Files, GetFault, Listen, Pause, Rand, Sink, Spawner};
 use da_port::{Port, Seat};

@@ -1,14 +1,14 @@
 // One client's connection that is opened, read, written and printed by calls one after another.
 
 ghost use Rattle.std.specs.Prelude.{◌≡◌, true};
-ghost use Rattle.da_serve.specs.Printed.{HasEnded};
+ghost use Rattle.da_finish.specs.Printed.{HasEnded};
 ghost use Rattle.da_turn.specs.Seats.{IsFree, IsOf, seen};
 
 use da_core::Goal;
+use da_finish::finish_serve;
 use da_msgs::ConnKind;
 use da_outside::{MemSink, MemSource, NoPause, SetClock, SetRand, SlowSink};
 use da_port::{Port, Seat};
-use da_serve::finish_serve;
 use da_session::{ReadEnd, WriteEnd, read_conn, write_conn};
 use std::alloc::Global;
 use std::process::Abort;

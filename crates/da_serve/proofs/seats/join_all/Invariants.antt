@@ -1,5 +1,5 @@
 use Rattle.da_turn.specs.Seats.{IsOf, IsFree, seen}
-use Rattle.da_serve.specs.Printed.{HasEnded}
+use Rattle.da_finish.specs.Printed.{HasEnded}
 use Rattle.da_serve.proofs.seats.join_all.Given as goal
 
 abbrev pub invariant-loop-sitter : goal.invariant-loop-sitter

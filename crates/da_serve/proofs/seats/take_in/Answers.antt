@@ -1,5 +1,5 @@
 use Rattle.da_turn.specs.Seats.{seen}
-use Rattle.da_serve.proofs.Ends.{ended_stays}
+use Rattle.da_finish.proofs.Ends.{ended_stays}
 use Rattle.da_serve.proofs.seats.take_in.Goals as goal
 
 pub returns-clause-ended : goal.returns-clause-ended

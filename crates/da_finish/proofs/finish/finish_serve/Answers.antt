@@ -1,6 +1,6 @@
 use Rattle.da_turn.specs.Seats.{seen}
-use Rattle.da_serve.proofs.PrintLemmas.{closed_ended, closed_finishes}
-use Rattle.da_serve.proofs.finish.finish_serve.Goals as goal
+use Rattle.da_finish.proofs.PrintLemmas.{closed_ended, closed_finishes}
+use Rattle.da_finish.proofs.finish.finish_serve.Goals as goal
 
 pub print_history-requires : goal.print_history-requires
 print_history-requires g c =

@@ -6,7 +6,7 @@ use Rattle.da_play.specs.declared.input.Entry.{Entry}
 use Rattle.da_port.specs.declared.terms.Terms.{Terms}
 use Rattle.da_settings.specs.declared.settings.Settings.{Settings}
 use Rattle.da_turn.specs.Entries.{IsLater}
-use Rattle.da_serve.specs.Printed.{HasEnded}
+use Rattle.da_finish.specs.Printed.{HasEnded}
 
 later_trans : (f g h : List Entry) → IsLater f g → IsLater g h → IsLater f h
 later_trans f g h p q = (q.0 ++ p.0, q.1 ∙ ap (λ l. q.0 ++ l) p.1 ∙ sym (append_assoc q.0 p.0 f))

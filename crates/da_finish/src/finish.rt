@@ -4,8 +4,8 @@ ghost use Rattle.std.specs.Prelude.{◌≡◌, ◌++◌, ◌∷◌, [], reverse,
 ghost use Rattle.da_play.specs.Legal.{IsLegal};
 ghost use Rattle.da_port.specs.Terms.{terms_of};
 ghost use Rattle.da_script.specs.Scripts.{script};
-ghost use Rattle.da_serve.specs.Bridges.{TellsEnd, WritesAhead, WritesScript, entry_line};
-ghost use Rattle.da_serve.specs.Printed.{Finishes, HasEnded, Prints, ends_full};
+ghost use Rattle.da_finish.specs.Bridges.{TellsEnd, WritesAhead, WritesScript, entry_line};
+ghost use Rattle.da_finish.specs.Printed.{Finishes, HasEnded, Prints, ends_full};
 ghost use Rattle.da_stream.specs.Output.{Writes};
 ghost use Rattle.da_turn.specs.Entries.{IsLater};
 ghost use Rattle.da_turn.specs.Seats.{IsFree, IsOf, seen};

@@ -3,10 +3,10 @@ use Rattle.std.proofs.lemmas.List.{take_all}
 use Rattle.da_base.specs.Words.{Bytes}
 use Rattle.da_play.specs.declared.input.Entry.{Entry}
 use Rattle.da_script.specs.Scripts.{script}
-use Rattle.da_serve.specs.Bridges.{WritesScript}
+use Rattle.da_finish.specs.Bridges.{WritesScript}
 use Rattle.da_stream.specs.Output.{Begins}
-use Rattle.da_serve.proofs.PrintLemmas.{Printing, front_further, printing_ends, printing_fault, printing_more, printing_part, script_of_front}
-use Rattle.da_serve.proofs.finish.write_script.Goals as goal
+use Rattle.da_finish.proofs.PrintLemmas.{Printing, front_further, printing_ends, printing_fault, printing_more, printing_part, script_of_front}
+use Rattle.da_finish.proofs.finish.write_script.Goals as goal
 
 pub returns-in_default : goal.returns-in_default
 returns-in_default g c =

@@ -13,11 +13,11 @@ use Rattle.da_port.specs.Terms.{terms_of}
 use Rattle.da_port.specs.declared.terms.Terms.{Terms}
 use Rattle.da_script.specs.Scripts.{script}
 use Rattle.da_stream.specs.Output.{Begins, WrittenFront, WrittenWhole}
-use Rattle.da_serve.specs.declared.finish.Written.{Written}
-use Rattle.da_serve.specs.declared.finish.Written.TheVariants.{Whole, Fault, NoMemory as WantsMemory}
-use Rattle.da_serve.specs.Bridges.{WritesScript, entry_line}
-use Rattle.da_serve.specs.Printed.{Finishes, HasEnded, Prints, WrittenPart}
-use Rattle.da_serve.proofs.Ends.{ended_stays}
+use Rattle.da_finish.specs.declared.finish.Written.{Written}
+use Rattle.da_finish.specs.declared.finish.Written.TheVariants.{Whole, Fault, NoMemory as WantsMemory}
+use Rattle.da_finish.specs.Bridges.{WritesScript, entry_line}
+use Rattle.da_finish.specs.Printed.{Finishes, HasEnded, Prints, WrittenPart}
+use Rattle.da_finish.proofs.Ends.{ended_stays}
 use Rattle.da_turn.specs.Entries.{IsLater}
 
 -- So far: of the script of some entries a front was written, and the rest is held.
