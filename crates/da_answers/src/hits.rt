@@ -91,7 +91,7 @@ fn is_usable_answer(
 }
 
 /// Whether the answer to the query of this number is usable for what the request asks.
-#[tactic(auto, unfolding(crate::specs::Hits::is_usable))]
+#[tactic(auto, unfolding(da_tables::specs::Hits::is_usable))]
 pub fn is_usable(
     alloc: Global,
     settings: &Settings,
