@@ -30,6 +30,42 @@ fn escapes_are_written_and_read(rt: HostRuntime) -> Result<(), Fail> {
     Ok(())
 }
 
+// Bytes, each with its text behind `>` (RFC 4648, section 10).
+const ENCODED: &[u8] = b">|f>Zg==|fo>Zm8=|foo>Zm9v|foob>Zm9vYg==|fooba>Zm9vYmE=|foobar>Zm9vYmFy";
+
+// Texts without their padding, with bits that are left over, and with bytes of no alphabet or another one.
+const NOT_ENCODED: &[u8] = b"Zg|Zg=|Zh==|Zm9v\n|Z_==|Zg==Zg==";
+
+fn is_decoded(alloc: Global, text: &[u8], bytes: &[u8]) -> Result<bool, AllocError> {
+    match from_base64(alloc, text)? {
+        Some(read) => Ok(read.as_slice() == bytes),
+        None => Ok(false),
+    }
+}
+
+fn is_encoded(alloc: Global, case: &[u8]) -> Result<bool, AllocError> {
+    let (bytes, text) = cut(case, b'>');
+    Ok(to_base64(alloc, bytes)?.as_slice() == text && is_decoded(alloc, text, bytes)?)
+}
+
+fn is_pushed(alloc: Global) -> Result<bool, AllocError> {
+    let mut text = Vec::from_slice(alloc, b"c=")?;
+    push_base64(&mut text, alloc, b"n,,")?;
+    Ok(text.as_slice() == b"c=biws".as_slice())
+}
+
+#[test]
+fn base64_is_that_of_rfc_4648(rt: HostRuntime) -> Result<(), Fail> {
+    for case in ENCODED.split(|byte| *byte == b'|') {
+        assert!(rt; is_encoded(rt.alloc(), case)?);
+    }
+    for text in NOT_ENCODED.split(|byte| *byte == b'|') {
+        assert!(rt; from_base64(rt.alloc(), text)?.is_none());
+    }
+    assert!(rt; is_pushed(rt.alloc())?);
+    Ok(())
+}
+
 // Texts with a comma behind each.
 fn listed(alloc: Global, texts: &[Vec<u8>]) -> Result<Vec<u8>, AllocError> {
     let mut all = Vec::new(alloc);
