@@ -1,4 +1,5 @@
 pub mod Words
+pub mod ServeWords
 pub mod Commands
 pub mod Statuses
 pub mod SettingsFile

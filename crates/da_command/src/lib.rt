@@ -5,12 +5,14 @@
 
 mod check;
 mod commands;
+mod serve_words;
 mod settings_file;
 mod status;
 mod words;
 
 pub use check::run_check;
 pub use commands::Command;
+pub use serve_words::task_of_serve;
 pub use settings_file::read_settings;
 pub use status::Status;
-pub use words::{command, path_after, path_of_drive, path_of_worker};
+pub use words::{command, path_of_drive, path_of_worker};

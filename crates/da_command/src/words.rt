@@ -56,7 +56,7 @@ fn path_of_command<'a>(name: &[u8], words: &'a [String]) -> Option<&'a [u8]>
 }
 
 /// The path, where the command is that of the name. A path isn't empty, and doesn't begin with `-`.
-pub fn path_after<'a>(name: &[u8], command: &[u8], path: &'a [u8]) -> Option<&'a [u8]>
+pub(crate) fn path_after<'a>(name: &[u8], command: &[u8], path: &'a [u8]) -> Option<&'a [u8]>
     ensures { option_copied result ≡ path_of name.now command.now path.now }
 {
     if command == name && may_be_value(path) {

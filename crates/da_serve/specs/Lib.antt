@@ -1,3 +1,2 @@
 pub mod Bridges
 pub mod Serving
-pub mod Words

@@ -1,6 +1,7 @@
 -- What `run_serve` does, by its words, its file and its sockets.
 use Rattle.std.specs.Prelude.{◌≡◌, ◌⊎◌, ⊤, List, Option, Some, None, Ok}
 use Rattle.da_base.specs.Words.{Bytes}
+use Rattle.da_command.specs.ServeWords.{serve_task}
 use Rattle.da_command.specs.SettingsFile.{HoldsFault, HoldsSettings, PathFails}
 use Rattle.da_command.specs.declared.status.Status.{Status}
 use Rattle.da_command.specs.declared.status.Status.TheVariants.{Done, Usage, NoListen, NoMemory, NoSettings, BadSettings, Full}
@@ -15,7 +16,6 @@ use Rattle.da_play.specs.Legal.{IsLegal}
 use Rattle.da_play.specs.declared.input.Entry.{Entry}
 use Rattle.da_port.specs.declared.terms.Terms.{Terms}
 use Rattle.da_finish.specs.Printed.{HasEnded, Prints}
-use Rattle.da_serve.specs.Words.{serve_task}
 use Rattle.da_settings.specs.declared.settings.Goal.{Goal}
 use Rattle.da_settings.specs.declared.settings.Settings.{Settings}
 

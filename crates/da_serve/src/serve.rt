@@ -6,183 +6,16 @@ ghost use Rattle.da_finish.specs.Printed.{HasEnded};
 ghost use Rattle.da_serve.specs.Serving.{RunsServe, ServesNew, ServesUnder};
 ghost use Rattle.da_turn.specs.Seats.{IsFree, IsOf, seen};
 
-use crate::seats::{join_all, take_in};
-use crate::shared::Shared;
-use crate::words::task_of;
-use da_command::{Status, read_settings};
+use crate::service::serve_port;
+use da_command::{Status, read_settings, task_of_serve};
 use da_finish::finish_serve;
-use da_msgs::ConnKind;
 use da_outside::{Clock, Crew, Files, GetFault, Listen, Pause, Rand, Sink, Spawner};
-use da_port::{Port, Seat};
-use da_session::serve_ticks;
+use da_port::Port;
 use da_settings::{Goal, Settings};
+use da_threads::Shared;
 use std::alloc::Global;
 use std::sync::Wait;
-use std::thread;
-use std::thread::{Scope, Threads};
-
-impl<'s, R: Threads + Wait + Sync, C: Clock + Sync, Z: Pause + Sync> Shared<'s, R, C, Z> {
-    // Lets time pass until the history has ended.
-    fn tick(self, mut seat: Seat) -> Seat
-        requires { IsOf self.port.now seat × IsFree seat }
-        ensures own { IsOf self.entry.port.now result × IsFree result }
-        ensures ended { HasEnded self.entry.port.now.fixed (seen result) }
-    {
-        let _ = serve_ticks(self.rt, self.port, &mut seat, self.clock, self.pause);
-        seat
-    }
-
-    // The masters' accepting loop beside the clients'.
-    fn serve_conns<L: Listen + Send, G: Rand + Send + Drop>(
-        self,
-        seat: Seat,
-        other: Seat,
-        goal: Option<Goal>,
-        clients: &mut L,
-        masters: &mut L,
-        rand: &mut G,
-    ) -> (Seat, Seat)
-    where
-        L::Source: Send + Drop,
-        L::Sink: Send + Drop,
-        requires { (IsOf self.port.now seat × IsFree seat) × (IsOf self.port.now other × IsFree other) }
-        ensures { (IsOf self.entry.port.now result.0 × IsFree result.0)
-            × (IsOf self.entry.port.now result.1 × IsFree result.1) }
-    {
-        let client_limit = goal.map(|goal| goal.clients);
-        let master_limit = goal.map(|goal| goal.masters);
-        let client_rand = rand.fork();
-        let master_rand = rand.fork();
-        thread::join(
-            self.rt,
-            || -> Seat
-                requires { IsOf self.port.now other × IsFree other }
-                ensures { IsOf self.entry.port.now result × IsFree result }
-            {
-                let mine = other;
-                let rand = master_rand;
-                Shared { ..self }.accept_conns(mine, ConnKind::Master, masters, master_limit, rand)
-            },
-            || -> Seat
-                requires { IsOf self.port.now seat × IsFree seat }
-                ensures { IsOf self.entry.port.now result × IsFree result }
-            {
-                let mine = seat;
-                let rand = client_rand;
-                Shared { ..self }.accept_conns(mine, ConnKind::Client, clients, client_limit, rand)
-            },
-        )
-    }
-
-    // The clock beside the accepting loops. Where no thread can be made for it, it comes last, and ends at once.
-    fn serve_sockets<L: Listen + Send, G: Rand + Send + Drop>(
-        self,
-        mut seat: Seat,
-        goal: Option<Goal>,
-        clients: &mut L,
-        masters: &mut L,
-        rand: &mut G,
-    ) -> Seat
-    where
-        L::Source: Send + Drop,
-        L::Sink: Send + Drop,
-        requires { IsOf self.port.now seat × IsFree seat }
-        ensures own { IsOf self.entry.port.now result × IsFree result }
-        ensures ended { HasEnded self.entry.port.now.fixed (seen result) }
-    {
-        let ticks = self.port.split(&mut seat);
-        let other = self.port.split(&mut seat);
-        let (mut ended, (seat, other)) = thread::join(
-            self.rt,
-            || -> Seat
-                requires { IsOf self.port.now ticks × IsFree ticks }
-                ensures { (IsOf self.entry.port.now result × IsFree result)
-                    × HasEnded self.entry.port.now.fixed (seen result) }
-            {
-                let mine = ticks;
-                Shared { ..self }.tick(mine)
-            },
-            || -> (Seat, Seat)
-                requires { (IsOf self.port.now seat × IsFree seat)
-                    × (IsOf self.port.now other × IsFree other) }
-                ensures { (IsOf self.entry.port.now result.0 × IsFree result.0)
-                    × (IsOf self.entry.port.now result.1 × IsFree result.1) }
-            {
-                let mine = seat;
-                let theirs = other;
-                Shared { ..self }.serve_conns(mine, theirs, goal, clients, masters, rand)
-            },
-        );
-        take_in(self.port, &mut ended, seat);
-        take_in(self.port, &mut ended, other);
-        ended
-    }
-
-    // The workers, and all else beside them.
-    fn serve_in<E, L: Listen + Send, W: Crew, G: Rand + Send + Drop>(
-        self,
-        scope: &Scope<'s, E>,
-        mut seat: Seat,
-        goal: Option<Goal>,
-        clients: &mut L,
-        masters: &mut L,
-        crew: &mut W,
-        rand: &mut G,
-    ) -> Seat
-    where
-        L::Source: Send + Drop,
-        L::Sink: Send + Drop,
-        W::Spawner: Send + Drop + 's,
-        <W::Spawner as Spawner>::Link: Send + Drop,
-        W::Runner: Send + Drop + 's,
-        requires own { IsOf self.port.now seat × IsFree seat }
-        requires terms { self.settings.now ≡ self.port.now.fixed.settings }
-        ensures own { IsOf self.entry.port.now result × IsFree result }
-        ensures ended { HasEnded self.entry.port.now.fixed (seen result) }
-    {
-        let mut workers = Vec::new(self.alloc);
-        self.start_workers(scope, &mut seat, &mut workers, crew);
-        let mut seat = self.serve_sockets(seat, goal, clients, masters, rand);
-        join_all(self.rt, self.port, &mut seat, workers);
-        seat
-    }
-
-    // The service over a port, until its history has ended and all threads are joined.
-    fn serve_port<L: Listen + Send, W: Crew, G: Rand + Send + Drop>(
-        self,
-        seat: Seat,
-        goal: Option<Goal>,
-        clients: &mut L,
-        masters: &mut L,
-        crew: &mut W,
-        rand: &mut G,
-    ) -> Seat
-    where
-        L::Source: Send + Drop,
-        L::Sink: Send + Drop,
-        W::Spawner: Send + Drop,
-        <W::Spawner as Spawner>::Link: Send + Drop,
-        W::Runner: Send + Drop,
-        requires own { IsOf self.port.now seat × IsFree seat }
-        requires terms { self.settings.now ≡ self.port.now.fixed.settings }
-        ensures own { IsOf self.entry.port.now result × IsFree result }
-        ensures ended { HasEnded self.entry.port.now.fixed (seen result) }
-    {
-        thread::scope(
-            thread::scope_env(),
-            self.rt,
-            |scope| -> Seat
-                requires { (IsOf self.port.now seat × IsFree seat)
-                    × (self.settings.now ≡ self.port.now.fixed.settings) }
-                ensures { (IsOf self.entry.port.now result × IsFree result)
-                    × HasEnded self.entry.port.now.fixed (seen result) }
-            {
-                let mine = seat;
-                Shared { ..self }.serve_in(scope, mine, goal, clients, masters, crew, rand)
-            },
-        )
-    }
-}
+use std::thread::Threads;
 
 fn bind<L: Listen>(alloc: Global, listen: &mut L, path: &[u8]) -> Result<(), Status>
     ensures { Binds (L.state listen.old) (L.state listen.new) result }
@@ -253,7 +86,7 @@ where
         clock,
         pause,
     };
-    let seat = shared.serve_port(seat, goal, clients, masters, crew, rand);
+    let seat = serve_port(shared, seat, goal, clients, masters, crew, rand);
     finish_serve(rt, alloc, port, seat, output)
 }
 
@@ -344,7 +177,7 @@ where
         })
         result }
 {
-    let Some((path, goal)) = task_of(words) else {
+    let Some((path, goal)) = task_of_serve(words) else {
         return Status::Usage;
     };
     match read_settings(alloc, path, files) {

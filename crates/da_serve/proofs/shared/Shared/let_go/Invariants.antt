@@ -1,5 +1,0 @@
-use Rattle.da_turn.specs.Seats.{IsOf, IsFree}
-use Rattle.da_serve.proofs.shared.Shared.let_go.Given as goal
-
-abbrev pub invariant-loop : goal.invariant-loop
-invariant-loop g l = IsOf l.fn.self.port.now l.seat × IsFree l.seat
