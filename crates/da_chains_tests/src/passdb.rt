@@ -1,4 +1,5 @@
-ghost use Rattle.da_passdb.specs.Cursors.{IsAlong};
+ghost use Rattle.std.specs.Prelude.{◌≡◌, true};
+ghost use Rattle.da_passdb.specs.Cursors.{IsAlong, IsAsking};
 
 use crate::cases::{add, add_fields, cut, fields_of, numbered, text, variable};
 use da_fields::{Answer, Fields, QueryKind, Text};
@@ -195,6 +196,17 @@ fn is_told_at_once<R: Abort>(
     shown(rt, alloc, &chain).as_slice() == wanted
 }
 
+// Whether a chain asks a database.
+fn asks<R: Abort>(rt: &R, alloc: Global, dbs: &[Passdb], cursor: &Cursor) -> bool
+    requires { IsAlong dbs.now cursor.now }
+    ensures { result ≡ true → IsAsking dbs.now cursor.now }
+{
+    match cursor.at(alloc, dbs).expect(rt, "memory") {
+        Chain::Ask { .. } => true,
+        Chain::Done(_) => false,
+    }
+}
+
 // Lets a chain take an answer, where it asks.
 fn take_one<R: Abort>(
     rt: &R,
@@ -207,10 +219,9 @@ fn take_one<R: Abort>(
     requires { IsAlong dbs.now cursor.old }
     ensures { IsAlong dbs.now cursor.new }
 {
-    let answer = answer.copy(alloc).expect(rt, "memory");
-    match cursor.at(alloc, dbs).expect(rt, "memory") {
-        Chain::Ask { .. } => cursor.take(dbs, answer, memo).expect(rt, "memory"),
-        Chain::Done(_) => {}
+    if asks(rt, alloc, dbs, cursor) {
+        let answer = answer.copy(alloc).expect(rt, "memory");
+        cursor.take(dbs, answer, memo).expect(rt, "memory");
     }
 }
 
