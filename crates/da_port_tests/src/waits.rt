@@ -11,13 +11,12 @@ use std::alloc::Global;
 use std::process::Abort;
 use std::sync::Wait;
 
-// How often a thread looks at most. The clock looks again and again while a login is undecided or a query runs.
+// How often a thread looks at most. The clock has no such bound: it looks again and again while a login is undecided or a
+// query runs, and the others may be kept from running all that time.
 const TURNS: u32 = 20_000;
 
-const CLOCK_TURNS: u32 = 5_000_000;
-
-// The last moment of the clock, before any login has taken too long.
-const LAST_MOMENT: u64 = 140_000;
+// How long a failure is held back, in milliseconds.
+const FAILURE_DELAY: u64 = 2_000;
 
 // The lines of the greeting, a challenge, and a reply to each of three logins.
 const LINES: usize = 10;
@@ -123,19 +122,25 @@ fn is_needed<R: Wait>(rt: &R, port: &Port, seat: &mut Seat, mark: Mark) -> bool
     true
 }
 
-/// Does the work of the clock until the goal is met, by a clock of its own that runs fast up to its last moment.
+// The moment at which all is due that was decided by now: after the last tick, nothing was decided later than it.
+fn moment_after(ticks: usize) -> u64 {
+    (ticks as u64)
+        .saturating_add(1)
+        .saturating_mul(FAILURE_DELAY)
+}
+
+/// Does the work of the clock until the goal is met. Its clock stands still between two ticks, so that it never comes to
+/// where a login has taken too long, however late the others run.
 pub fn keep_time<R: Wait>(rt: &R, port: &Port, seat: &mut Seat, told: &mut Vec<u32>)
     requires { IsOf port.now seat.old × IsFree seat.old }
     ensures { IsOf port.now seat.new × IsFree seat.new }
 {
-    let mut moment = 0u64;
-    for _ in 0..CLOCK_TURNS {
+    for _ in 0..u32::MAX {
         let mark = port.mark_clock();
-        tick_if_due(rt, port, seat, moment, told);
+        tick_if_due(rt, port, seat, moment_after(told.len()), told);
         if !is_needed(rt, port, seat, mark) {
             return;
         }
-        moment = moment.saturating_add(1000).min(LAST_MOMENT);
     }
 }
 
