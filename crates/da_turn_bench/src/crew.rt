@@ -56,8 +56,8 @@ fn work<R: Wait>(rt: &R, turn: &Turn<Board>, job: Job) -> Seat<Board>
     seat
 }
 
-/// Seats for so many threads.
-pub fn jobs(
+// Seats for so many threads.
+fn jobs(
     alloc: Global,
     turn: &Turn<Board>,
     seat: &mut Seat<Board>,
@@ -80,8 +80,8 @@ pub fn jobs(
     Ok(jobs)
 }
 
-/// Does each job in a thread of its own, and joins the seats that come back.
-pub fn run<R: Threads + Wait + Sync>(
+// Does each job in a thread of its own, and joins the seats that come back.
+fn run<R: Threads + Wait + Sync>(
     rt: &R,
     turn: &Turn<Board>,
     seat: &mut Seat<Board>,
@@ -101,6 +101,22 @@ pub fn run<R: Threads + Wait + Sync>(
     )?;
     join_all(turn, seat, seats);
     Ok(())
+}
+
+/// So many threads take so many turns each.
+pub fn take_turns<R: Threads + Wait + Sync>(
+    rt: &R,
+    alloc: Global,
+    turn: &Turn<Board>,
+    seat: &mut Seat<Board>,
+    threads: u64,
+    turns: u64,
+) -> Result<(), AllocError>
+    requires { IsOf turn.now seat.old × IsFree seat.old }
+    ensures { IsOf turn.now seat.new × IsFree seat.new }
+{
+    let jobs = jobs(alloc, turn, seat, threads, turns)?;
+    run(rt, turn, seat, jobs)
 }
 
 fn join_all(turn: &Turn<Board>, seat: &mut Seat<Board>, mut seats: Vec<Seat<Board>>)

@@ -29,8 +29,7 @@ fn marked<R: Threads + Wait + Sync>(
             return Err(fault);
         }
     };
-    let jobs = crew::jobs(alloc, &turn, &mut seat, threads, turns)?;
-    crew::run(rt, &turn, &mut seat, jobs)?;
+    crew::take_turns(rt, alloc, &turn, &mut seat, threads, turns)?;
     Ok(turn.close(rt, seat))
 }
 
